@@ -1,0 +1,47 @@
+-- One table of examples: the bytes of a table and what judging them answers.
+use Prim.Native.Nat.{ℕ, _-_}
+use mathlib.Core.List.{List, [], _∷_, _++_, map}
+use lib.ListN.{take}
+use Rattle.table.specs.declared.Verdict.{Verdict}
+use Rattle.table.specs.declared.Verdict.the-variants.{Accepted, Refused}
+use Rattle.examples.specs.Tables.{row, table, trusted, guest, type, number, guarded, public, parameter, local, code, rowsS, rowsT, with-row, times}
+
+pub record Example : Type 0 where
+  pub bytes : List ℕ
+  pub verdict : Verdict
+
+abbrev pub gives : List ℕ → Verdict → Example
+gives bytes verdict = record { bytes = bytes; verdict = verdict }
+
+unfoldable pub examples : List Example
+examples =
+    -- document 01: no bytes; T less one byte; row 0 guest
+    gives [] (Refused 1 0)
+    ∷ gives (take 255 (table rowsT)) (Refused 1 0)
+    ∷ gives (table (with-row 0 guest rowsT)) (Refused 4 2)
+    -- 2: row 0 not a module; a kind that is unknown; a field below a module
+    ∷ gives (table (type ∷ [])) (Refused 2 0)
+    ∷ gives (table (guest ∷ row 8 0 0 0 0 ∷ [])) (Refused 2 1)
+    ∷ gives (table (guest ∷ number ∷ [])) (Refused 2 1)
+    -- 3: a 17th module; a ninth field
+    ∷ gives (table (times 17 guest)) (Refused 3 16)
+    ∷ gives (table (guest ∷ type ∷ times 9 number)) (Refused 3 10)
+    -- 4: an unused byte; a parameter after another local; C of 256; opcode 20; Op 4; a guarded record
+    ∷ gives (table (guest ∷ row 2 1 0 0 0 ∷ [])) (Refused 4 1)
+    ∷ gives (table (guest ∷ public ∷ local 0 0 ∷ parameter 0 0 ∷ [])) (Refused 4 3)
+    ∷ gives (table (guest ∷ public ∷ row 5 0 0 256 0 ∷ [])) (Refused 4 2)
+    ∷ gives (table (guest ∷ public ∷ code 20 0 ∷ [])) (Refused 4 2)
+    ∷ gives (table (guest ∷ public ∷ code 19 4 ∷ [])) (Refused 4 2)
+    ∷ gives (table (trusted ∷ type ∷ type ∷ row 3 1 0 1 0 ∷ [])) (Refused 4 3)
+    -- two faults on one row: a 17th module with A = 2; on two rows: the upper one decides
+    ∷ gives (table (times 16 guest ++ (row 1 2 0 0 0 ∷ []))) (Refused 3 16)
+    ∷ gives (table (guest ∷ row 2 1 0 0 0 ∷ row 9 0 0 0 0 ∷ [])) (Refused 4 1)
+    ∷ []
+
+-- the answers that the examples give
+unfoldable pub verdicts : List Verdict
+verdicts = map (λ (e : Example). e .verdict) examples
+
+-- what a rule answers to them
+unfoldable pub answers : (List ℕ → Verdict) → List Verdict
+answers rule = map (λ (e : Example). rule (e .bytes)) examples

@@ -1,0 +1,55 @@
+-- Laws of a pass that stops at its first faulty row, for any answer type and any fault function.
+use Prim.Native.Nat.{ℕ, suc, zero, _+_, _-_, _<_, _≤_}
+use mathlib.Core.Path.{_≡_, refl, sym, _∙_}
+use native.Mathlib.Nat.{sub-self, sub-zero, add-zero}
+use native.Mathlib.Decide.{decLt}
+use native.Mathlib.Omega.{arith}
+use Rattle.laws.specs.First.{firstFault, unless}
+
+less : (n i : ℕ) → i < n → n - i ≡ suc (n - (i + 1))
+less n i h = omega arith
+
+unless-bad : {A : Type 0} (f : ℕ) (bad rest : A) → (f ≡ 0 → ⊥) → unless f bad rest ≡ bad
+unless-bad zero bad rest ne = absurd (ne refl)
+unless-bad (suc f) bad rest ne = refl
+
+module _ {A : Type 0} (clean : ℕ → A) (bad : ℕ → ℕ → A) (f : ℕ → ℕ) where
+  -- what is left of a pass over n rows when it comes to row i
+  abbrev pub from : ℕ → ℕ → A
+  from n i = firstFault clean bad f i (n - i)
+
+  pub fine : (n i : ℕ) → i < n → f i ≡ 0 → from n i ≡ from n (i + 1)
+  unfolding firstFault
+  fine n i h e = rw (less n i h, e)
+
+  pub faulty : (n i : ℕ) → i < n → (f i ≡ 0 → ⊥) → from n i ≡ bad (f i) i
+  unfolding firstFault
+  faulty n i h ne = rw (less n i h) (unless-bad (f i) _ _ ne)
+
+  pub done : (n : ℕ) → from n n ≡ clean n
+  unfolding firstFault
+  done n = rw (sub-self n)
+
+  pub whole : (n : ℕ) → firstFault clean bad f 0 n ≡ from n 0
+  whole n = rw sub-zero
+
+module _ {A : Type 0} (clean : ℕ → A) (bad : ℕ → ℕ → A) (f : ℕ → ℕ) (apart : (n k i : ℕ) → bad k i ≡ clean n → ⊥) where
+  -- a pass whose answer is clean has no faulty row
+  pub all-fine : (m i left : ℕ) → firstFault clean bad f i left ≡ clean m → (j : ℕ) → i ≤ j → j < i + left → f j ≡ 0
+  unfolding firstFault
+  all-fine m i zero e j lo hi = absurd (omega arith)
+  all-fine m i (suc left) e j lo hi = go (f i) refl (decLt i j) (λ q h. all-fine m (i + 1) left (rw q at e) j (omega arith) (omega arith))
+    where
+      go : (k : ℕ) → f i ≡ k → Dec (i < j) → (f i ≡ 0 → i < j → f j ≡ 0) → f j ≡ 0
+      go (suc k) q d rest = absurd (apart m (suc k) i (rw q at e))
+      go zero q (yes h) rest = rest q h
+      go zero q (no h) rest = let s : j ≡ i = omega arith in rw s q
+
+-- a pass with no faulty row is clean
+pub clean-if : {A : Type 0} (clean : ℕ → A) (bad : ℕ → ℕ → A) (f : ℕ → ℕ) (i left : ℕ) → ((j : ℕ) → i ≤ j → j < i + left → f j ≡ 0) → firstFault clean bad f i left ≡ clean (i + left)
+unfolding firstFault
+clean-if clean bad f i zero h = rw add-zero refl
+clean-if clean bad f i (suc left) h =
+    let e : f i ≡ 0 = h i (omega arith) (omega arith) in
+    let s : i + suc left ≡ i + 1 + left = omega arith in
+    rw (e, s) (clean-if clean bad f (i + 1) left (λ j lo hi. h j (omega arith) (omega arith)))

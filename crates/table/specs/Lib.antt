@@ -1,0 +1,5 @@
+pub mod Format
+pub mod Rows
+pub mod Verdicts
+pub mod Index
+pub mod Procedures
