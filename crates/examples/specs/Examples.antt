@@ -4,7 +4,7 @@ use mathlib.Core.List.{List, [], _∷_, _++_, map}
 use lib.ListN.{take}
 use Rattle.table.specs.declared.Verdict.{Verdict}
 use Rattle.table.specs.declared.Verdict.the-variants.{Accepted, Refused}
-use Rattle.examples.specs.Tables.{row, table, trusted, guest, type, number, guarded, public, parameter, local, code, rowsS, rowsT, with-row, times}
+use Rattle.examples.specs.Tables.{row, table, trusted, guest, type, number, guarded, public, private, parameter, local, code, loadConst, rowsS, rowsT, with-row, without-row, times}
 
 pub record Example : Type 0 where
   pub bytes : List ℕ
@@ -36,6 +36,28 @@ examples =
     -- two faults on one row: a 17th module with A = 2; on two rows: the upper one decides
     ∷ gives (table (times 16 guest ++ (row 1 2 0 0 0 ∷ []))) (Refused 3 16)
     ∷ gives (table (guest ∷ row 2 1 0 0 0 ∷ row 9 0 0 0 0 ∷ [])) (Refused 4 1)
+    -- S: accepted; its row 9 Pop; its row 7 taken out
+    ∷ gives (table rowsS) (Accepted 10)
+    ∷ gives (table (with-row 9 (code 0 0) rowsS)) (Refused 5 3)
+    ∷ gives (table (without-row 7 rowsS)) (Refused 7 7)
+    -- 5: no instructions
+    ∷ gives (table (guest ∷ public ∷ [])) (Refused 5 1)
+    -- 6: a type, a target and a lower type that are not there
+    ∷ gives (table (guest ∷ public ∷ parameter 1 0 ∷ code 16 0 ∷ [])) (Refused 6 2)
+    ∷ gives (table (guest ∷ public ∷ code 17 5 ∷ [])) (Refused 6 2)
+    ∷ gives (table (guest ∷ type ∷ row 3 1 0 0 0 ∷ [])) (Refused 6 2)
+    -- 7: an operand missing; 8: a 17th operand; 9: an operand under the results
+    ∷ gives (table (guest ∷ public ∷ code 0 0 ∷ code 16 0 ∷ [])) (Refused 7 2)
+    ∷ gives (table (guest ∷ public ∷ times 17 (loadConst 1) ++ (code 16 0 ∷ []))) (Refused 8 18)
+    ∷ gives (table (guest ∷ public ∷ loadConst 1 ∷ code 16 0 ∷ [])) (Refused 9 3)
+    -- 10: a type, and a private procedure, of another module
+    ∷ gives (table (trusted ∷ type ∷ guest ∷ public ∷ code 9 0 ∷ code 16 0 ∷ [])) (Refused 10 4)
+    ∷ gives (table (guest ∷ private ∷ code 16 0 ∷ guest ∷ public ∷ code 15 0 ∷ code 16 0 ∷ [])) (Refused 10 5)
+    -- two faults on one row: 7 before 10, 9 before 10
+    ∷ gives (table (guest ∷ private ∷ parameter 0 0 ∷ code 16 0 ∷ guest ∷ public ∷ code 15 0 ∷ code 16 0 ∷ [])) (Refused 7 6)
+    ∷ gives (table (trusted ∷ type ∷ guest ∷ public ∷ code 9 0 ∷ code 17 1 ∷ [])) (Refused 9 4)
+    -- a faulty row that no walk reaches
+    ∷ gives (table (guest ∷ public ∷ code 17 2 ∷ code 0 0 ∷ code 16 0 ∷ [])) (Refused 7 3)
     ∷ []
 
 -- the answers that the examples give

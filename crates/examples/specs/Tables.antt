@@ -65,6 +65,10 @@ rowsT = rowsS ++ (public ∷ parameter 3 0 ∷ result 2 0 ∷ code 2 0 ∷ code 
 unfoldable pub with-row : ℕ → List ℕ → List (List ℕ) → List (List ℕ)
 with-row i r rows = take i rows ++ (r ∷ drop (suc i) rows)
 
+-- rows with row i taken out
+unfoldable pub without-row : ℕ → List (List ℕ) → List (List ℕ)
+without-row i rows = take i rows ++ drop (suc i) rows
+
 -- n times the same row
 unfoldable pub times : ℕ → List ℕ → List (List ℕ)
 times zero r = []

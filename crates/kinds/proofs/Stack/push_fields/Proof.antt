@@ -1,0 +1,24 @@
+use borrow.Author.Needs.{needs}
+use Rattle.program.specs.Program.{fieldKinds}
+use Rattle.kinds.proofs.Stack.push_fields.Statement.{statement}
+use Rattle.kinds.proofs.Stack.push_fields.Tie as tie
+
+cast-push-rows : tie.Need-cast-push-rows
+cast-push-rows c = search needs
+
+add-push-rows : tie.Need-add-push-rows
+add-push-rows c = search needs
+
+cast-push-rows-2 : tie.Need-cast-push-rows-2
+cast-push-rows-2 c = search needs
+
+push-rows-requires : tie.Need-push-rows-requires
+push-rows-requires c κs = search needs
+
+returns : tie.Need-returns
+unfolding fieldKinds
+returns c = c .push-rows .ensures
+
+pub push-fields-spec : {M : Type 1} → statement M
+push-fields-spec =
+    tie.close (tie.spec cast-push-rows add-push-rows cast-push-rows-2 push-rows-requires returns)

@@ -1,0 +1,20 @@
+use borrow.Author.Needs.{needs}
+use Rattle.program.specs.Program.{resultKinds}
+use Rattle.kinds.proofs.Stack.take_results.Statement.{statement}
+use Rattle.kinds.proofs.Stack.take_results.Tie as tie
+
+cast-take-rows : tie.Need-cast-take-rows
+cast-take-rows c = search needs
+
+cast-take-rows-2 : tie.Need-cast-take-rows-2
+cast-take-rows-2 c = search needs
+
+take-rows-requires : tie.Need-take-rows-requires
+take-rows-requires c κs = search needs
+
+returns : tie.Need-returns
+unfolding resultKinds
+returns c = c .take-rows .ensures
+
+pub take-results-spec : {M : Type 1} → statement M
+take-results-spec = tie.close (tie.spec cast-take-rows cast-take-rows-2 take-rows-requires returns)

@@ -1,0 +1,133 @@
+-- The invariant: y types and p procedures begin above row i, own is procedure p - 1, and no row above i has a fault.
+use Prim.Native.Nat.{ℕ, _≤_, _-_, _/_}
+use mathlib.Core.Logic.{⊎-elim}
+use mathlib.Core.Path.{_≡_, refl, sym, ap, _∙_}
+use native.Mathlib.Omega.{arith}
+use borrow.Author.Needs.{needs}
+use lib.Dec.{eqb}
+use lib.ListN.{length, length-map, List·getD-eq-default}
+use Rattle.laws.specs.Lists.{count, hits}
+use Rattle.laws.proofs.First.{from, fine, faulty, done, whole}
+use Rattle.laws.proofs.Lists.{count-few}
+use Rattle.table.specs.declared.Verdict.the-variants.{Accepted, Refused}
+use Rattle.table.specs.Format.{typeKind, procedureKind}
+use Rattle.table.specs.Rows.{isKind}
+use Rattle.program.specs.Program.{typeIn, procedureIn}
+use Rattle.names.specs.Names.{namesWith, faultAt}
+use Rattle.names.proofs.Laws.{count-next, own-next, fault-here}
+use Rattle.names.proofs.names_with.Statement.{statement}
+use Rattle.names.proofs.names_with.Tie as tie
+
+abbrev Inv-loop : tie.InvT-loop
+Inv-loop table index n own₀ y₀ p₀ i₀ own y p i =
+    (i ≤ n)
+    × (y ≡ count (isKind table typeKind) i)
+    × (p ≡ count (isKind table procedureKind) i)
+    × (own ≡ procedureIn index (p - 1))
+    × (namesWith index table ≡ from Accepted Refused (faultAt table index) n i)
+
+abbrev μ-loop : tie.MeasureT-loop
+μ-loop table index n own₀ y₀ p₀ i₀ own y p i = n - i
+
+element-copy-out-own : tie.Need-element-copy-out-own Inv-loop μ-loop
+element-copy-out-own c = omega arith
+
+loop-holds : tie.Need-loop-holds Inv-loop μ-loop
+unfolding procedureIn namesWith count hits
+loop-holds c = (omega arith, refl, refl, refl, whole Accepted Refused _ _)
+
+row-at-requires : tie.Need-row-at-requires Inv-loop μ-loop
+row-at-requires c κs = search needs
+
+cast-at : tie.Need-cast-at Inv-loop μ-loop
+cast-at c = search needs
+
+mul-named : tie.Need-mul-named Inv-loop μ-loop
+mul-named c = omega arith
+
+element-copy-out-named : tie.Need-element-copy-out-named Inv-loop μ-loop
+element-copy-out-named c = omega arith
+
+mul-starts : tie.Need-mul-starts Inv-loop μ-loop
+mul-starts c = omega arith
+
+element-copy-out-starts : tie.Need-element-copy-out-starts Inv-loop μ-loop
+element-copy-out-starts c = omega arith
+
+name-fault-requires : tie.Need-name-fault-requires Inv-loop μ-loop
+name-fault-requires c κs = search needs
+
+-- what the row names, the procedure that starts at it, and its fault
+named-is : (c : tie.Joined1 Inv-loop μ-loop) → c .if1 .named ≡ typeIn (c .before .before .before .before .before .before .before .args .t2) (c .before .before .row-at .result .b / 8)
+unfolding typeIn
+named-is c = let l = c .before .before .before .before .before .before .before .args .t2 .«type_entries» in
+    let e : length l ≡ 64 = sym (length-map l _) ∙ c .before .before .before .before .before .before .before .good .1 .0 .1 .1 .1 .1 .1 .1 .0 .1 .0 .1 in
+    ⊎-elim (λ w. w .2) (λ w. w .1 ∙ sym (List·getD-eq-default l _ (omega arith))) (c .if1 .came)
+
+starts-is : (c : tie.Joined2 Inv-loop μ-loop) → c .if2 .starts ≡ procedureIn (c .before .before .before .before .before .before .before .before .args .t2) (c .before .before .before .before .before .loop .p)
+unfolding procedureIn
+starts-is c = let l = c .before .before .before .before .before .before .before .before .args .t2 .«procedure_entries» in
+    let e : length l ≡ 128 = sym (length-map l _) ∙ c .before .before .before .before .before .before .before .before .good .1 .0 .1 .1 .1 .1 .1 .1 .1 .0 .1 .0 .1 in
+    ⊎-elim (λ w. w .2) (λ w. w .1 ∙ sym (List·getD-eq-default l _ (omega arith))) (c .if2 .came)
+
+fault-is : (c : tie.After-name-fault Inv-loop μ-loop) → faultAt (c .before .before .before .before .before .before .before .before .before .args .table .now) (c .before .before .before .before .before .before .before .before .before .args .t2) (c .before .before .before .before .before .before .loop .i) ≡ c .name-fault .result
+fault-is c =
+    fault-here _ _ _ _ _ _ _ _ _ (c .before .before .before .before .row-at .ensures) (c .before .before .before .before .before .before .loop .inv .1) (c .before .before .before .before .before .before .loop .inv .2) (named-is (c .before .before)) (c .before .before .before .before .before .before .loop .inv .3) (starts-is (c .before))
+    ∙ sym (c .name-fault .ensures)
+
+returns : tie.Need-returns Inv-loop μ-loop
+returns c = let z = fault-is (c .before) in
+    sym (c .before .before .before .before .before .before .before .loop .inv .4 ∙ faulty Accepted Refused _ _ _ (omega arith) (λ q. c .if3 .taken (sym z ∙ q)) ∙ ap (λ (x : ℕ). Refused x (c .before .before .before .before .before .before .before .loop .i)) z)
+
+counted-requires : tie.Need-counted-requires Inv-loop μ-loop
+counted-requires c κs = omega (arith, count-few (isKind (c .before .before .before .before .before .before .before .before .before .before .args .table .now) typeKind) (c .before .before .before .before .before .before .before .loop .i))
+
+counted-requires-2 : tie.Need-counted-requires-2 Inv-loop μ-loop
+counted-requires-2 c κs = omega (arith, count-few (isKind (c .before .before .before .before .before .before .before .before .before .before .before .args .table .now) procedureKind) (c .before .before .before .before .before .before .before .before .loop .i))
+
+next-own-requires : tie.Need-next-own-requires Inv-loop μ-loop
+next-own-requires c κs = search needs
+
+add-i : tie.Need-add-i Inv-loop μ-loop
+add-i c = omega arith
+
+loop-less : tie.Need-loop-less Inv-loop μ-loop
+loop-less c = omega arith
+
+loop-again : tie.Need-loop-again Inv-loop μ-loop
+loop-again c = let e = c .before .before .before .before .before .before .before .before .row-at .ensures in
+    let k = c .before .before .before .before .before .before .before .before .before .before .loop .inv in (
+      omega arith,
+      c .before .before .counted .ensures ∙ count-next _ _ _ _ _ e (k .1),
+      c .before .counted2 .ensures ∙ count-next _ _ _ _ _ e (k .2),
+      own-next _ (eqb (c .before .before .before .before .before .before .before .before .row-at .result .kind) procedureKind) _ _ _ _ (c .before .counted2 .ensures) (c .next-own .ensures) (starts-is (c .before .before .before .before .before)) (k .3),
+      k .4 ∙ fine Accepted Refused _ _ _ (omega arith) (fault-is (c .before .before .before .before) ∙ c .before .before .before .if3 .left),
+    )
+
+returns-2 : tie.Need-returns-2 Inv-loop μ-loop
+returns-2 c = let e : c .before .loop .i ≡ length (c .before .before .before .before .args .table .now) / 16 = omega arith in
+    sym (c .before .loop .inv .4 ∙ rw e (done Accepted Refused _ _))
+
+pub names-with-spec : {M : Type 1} → statement M
+names-with-spec =
+    tie.close
+    (tie.spec
+    Inv-loop
+    μ-loop
+    element-copy-out-own
+    loop-holds
+    row-at-requires
+    cast-at
+    mul-named
+    element-copy-out-named
+    mul-starts
+    element-copy-out-starts
+    name-fault-requires
+    returns
+    counted-requires
+    counted-requires-2
+    next-own-requires
+    add-i
+    loop-less
+    loop-again
+    returns-2)

@@ -1,0 +1,15 @@
+//! Test inputs, all decided by a seed: tables (`tables`) and runs (`runs`).
+
+pub mod body;
+pub mod faults;
+pub mod kit;
+pub mod limits;
+pub mod mutate;
+pub mod plan;
+pub mod plan_faults;
+pub mod rng;
+pub mod row_faults;
+pub mod runs;
+pub mod structured;
+pub mod tables;
+pub mod wild;

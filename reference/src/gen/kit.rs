@@ -1,0 +1,557 @@
+//! Procedures written by hand for runs: a bank module that keeps coins, boxes and crates in the store, and a user
+//! module. A run takes the procedures it wants, and those that they call.
+
+use super::plan::{asm::*, Code, Plan, ProcPlan};
+use super::rng::Rng;
+use crate::program::Sort;
+use crate::row::op;
+
+pub const COIN: u16 = 0;
+pub const BOX: u16 = 1;
+pub const CRATE: u16 = 2;
+pub const TOKEN: u16 = 3;
+pub const NOTE: u16 = 4;
+
+const BANK: usize = 0;
+const USER: usize = 1;
+
+/// The procedures. Arguments are numbers where not said otherwise; `x` is a number that 1 is taken from at the
+/// end, so that 0 stops the call there.
+#[derive(Clone, Copy, Debug, PartialEq, Eq, PartialOrd, Ord)]
+#[repr(u16)]
+pub enum Id {
+    /// address, value: publishes a coin.
+    Mint,
+    /// address: the coin's first number.
+    Get,
+    /// address, value
+    Set,
+    /// address, value: adds.
+    Bump,
+    /// address, value: subtracts.
+    Take,
+    /// address
+    Has,
+    /// address: withdraws a coin and breaks it up.
+    Burn,
+    /// from, to
+    Shift,
+    /// address: publishes a record without fields.
+    PutToken,
+    /// address: puts the coin there into a box there.
+    BoxUp,
+    /// address: takes the coin out of the box.
+    Unbox,
+    /// address
+    BoxGet,
+    /// address, value
+    BoxSet,
+    /// address, value: publishes a crate: four records.
+    MakeCrate,
+    /// address, value: writes into the coin in the box in the crate.
+    CrateSet,
+    /// address: breaks a crate up and publishes its box.
+    Uncrate,
+    /// count, address: publishes coins in a row.
+    Fill,
+    /// count, address
+    FillBoxes,
+    /// count, address
+    FillCrates,
+    /// count: makes and breaks up coins, one after the other.
+    Churn,
+    /// count: each frame holds eight coins in locals.
+    Hold8,
+    /// count: each frame holds nine coins in locals.
+    Hold9,
+    /// count: frames on frames.
+    Deep,
+    /// count: frames of both modules in turn.
+    Ping,
+    Pong,
+    /// count
+    Spin,
+    Forever,
+    Add,
+    Subtract,
+    Compare,
+    /// value: reads a field of a coin broken up.
+    StaleField,
+    /// value: the same after its room was used again.
+    StaleReused,
+    /// address: borrows a field through a reference to a published coin broken up.
+    StaleGlobal,
+    /// address: the same after another coin was published there.
+    StaleReplaced,
+    /// address: a reference follows its coin into a box and out of it.
+    Follow,
+    /// address: the same, and then the coin is broken up.
+    FollowToEnd,
+    /// value: a local of a record emptied.
+    StaleRecordLocal,
+    /// value: a local of a record emptied and filled again.
+    RefilledRecord,
+    /// address: a coin moved from a local to the store; its field still works.
+    MovedAway,
+    /// address: but the local's reference does not.
+    StaleMovedAway,
+    /// value: gives a reference to its own local.
+    Lend,
+    /// value, reference: reads it.
+    Peek,
+    /// value, reference: writes.
+    Poke,
+    /// value
+    StaleFrame,
+    /// value: a new frame stands where the old one was.
+    StaleFrameReused,
+    /// value: writes instead.
+    StaleFrameWrite,
+    /// value
+    StaleEmpty,
+    /// value: writes instead.
+    StaleEmptyWrite,
+    /// value: a local emptied and filled again.
+    Refilled,
+    /// value: stale references are moved, copied, passed and popped.
+    HandleStale,
+    /// value: a called procedure writes into the caller's local.
+    WriteUp,
+    /// address, value, x: writes both numbers, then stops.
+    WriteStop,
+    /// from, to, x
+    MoveStop,
+    /// address, x: breaks a coin up, makes another in its room and publishes it.
+    BurnStop,
+    /// address, x
+    BoxStop,
+    /// address, value, x: writes in a called procedure, then stops there.
+    DeepWriteStop,
+    /// count, address, x
+    FillStop,
+    /// value: makes a coin and hands it out.
+    Make,
+    /// coin: breaks it up.
+    Break,
+    /// reference to a coin
+    Value,
+    /// from, to, value: the user pays.
+    Pay,
+    /// value: the user holds a coin for a while.
+    Carry,
+    /// address, value: publishes a record of the user's own.
+    PutNote,
+    /// address
+    NoteGet,
+}
+
+/// In the order of their numbers.
+pub const ALL: [Id; 64] = [
+    Id::Mint,
+    Id::Get,
+    Id::Set,
+    Id::Bump,
+    Id::Take,
+    Id::Has,
+    Id::Burn,
+    Id::Shift,
+    Id::PutToken,
+    Id::BoxUp,
+    Id::Unbox,
+    Id::BoxGet,
+    Id::BoxSet,
+    Id::MakeCrate,
+    Id::CrateSet,
+    Id::Uncrate,
+    Id::Fill,
+    Id::FillBoxes,
+    Id::FillCrates,
+    Id::Churn,
+    Id::Hold8,
+    Id::Hold9,
+    Id::Deep,
+    Id::Ping,
+    Id::Pong,
+    Id::Spin,
+    Id::Forever,
+    Id::Add,
+    Id::Subtract,
+    Id::Compare,
+    Id::StaleField,
+    Id::StaleReused,
+    Id::StaleGlobal,
+    Id::StaleReplaced,
+    Id::Follow,
+    Id::FollowToEnd,
+    Id::StaleRecordLocal,
+    Id::RefilledRecord,
+    Id::MovedAway,
+    Id::StaleMovedAway,
+    Id::Lend,
+    Id::Peek,
+    Id::Poke,
+    Id::StaleFrame,
+    Id::StaleFrameReused,
+    Id::StaleFrameWrite,
+    Id::StaleEmpty,
+    Id::StaleEmptyWrite,
+    Id::Refilled,
+    Id::HandleStale,
+    Id::WriteUp,
+    Id::WriteStop,
+    Id::MoveStop,
+    Id::BurnStop,
+    Id::BoxStop,
+    Id::DeepWriteStop,
+    Id::FillStop,
+    Id::Make,
+    Id::Break,
+    Id::Value,
+    Id::Pay,
+    Id::Carry,
+    Id::PutNote,
+    Id::NoteGet,
+];
+
+const N: Sort = Sort::Number;
+const R: Sort = Sort::NumberRef;
+const C: Sort = Sort::Record(COIN as u8);
+const CR: Sort = Sort::RecordRef(COIN as u8);
+
+/// A call before procedures have numbers.
+const fn to(id: Id) -> Code {
+    call(id as u16)
+}
+
+const fn bank(params: Vec<Sort>, others: Vec<Sort>, results: Vec<Sort>, code: Vec<Code>) -> ProcPlan {
+    ProcPlan { module: BANK, public: true, params, others, results, code }
+}
+
+const fn user(params: Vec<Sort>, others: Vec<Sort>, results: Vec<Sort>, code: Vec<Code>) -> ProcPlan {
+    ProcPlan { module: USER, public: true, params, others, results, code }
+}
+
+fn join(parts: &[&[Code]]) -> Vec<Code> {
+    parts.concat()
+}
+
+/// Takes 1 from the number local and drops what is left.
+fn less_one(local: u16) -> [Code; 4] {
+    [mv(local), load(1), arith(SUB), pop()]
+}
+
+/// Breaks up the coin on top.
+const BREAK: [Code; 3] = [unpack(COIN), pop(), pop()];
+
+type Writer = fn(Id) -> ProcPlan;
+
+/// The procedure, with calls that name an `Id`.
+fn procedure(id: Id) -> ProcPlan {
+    let groups: [(Id, Writer); 6] = [
+        (Id::Uncrate, store_procedure),
+        (Id::Hold9, many_records),
+        (Id::Compare, plain),
+        (Id::StaleMovedAway, record_references),
+        (Id::WriteUp, local_references),
+        (Id::FillStop, stopping),
+    ];
+    let group = groups.iter().find(|(last, _)| id <= *last);
+    group.map_or(handed_out as Writer, |(_, write)| *write)(id)
+}
+
+fn store_procedure(id: Id) -> ProcPlan {
+    let first = [mv(0), global(COIN), field(COIN, 0)];
+    match id {
+        Id::Mint => bank(vec![N, N], vec![], vec![], vec![mv(1), load(9), pack(COIN), mv(0), move_to(COIN), ret()]),
+        Id::Get => bank(vec![N], vec![], vec![N], join(&[&first, &[read(), ret()]])),
+        Id::Set => bank(vec![N, N], vec![], vec![], join(&[&[mv(1)], &first, &[write(), ret()]])),
+        Id::Bump => {
+            let code = join(&[&first, &[st(2), cp(2), read(), mv(1), arith(ADD), mv(2), write(), ret()]]);
+            bank(vec![N, N], vec![R], vec![], code)
+        }
+        Id::Take => {
+            let code = join(&[&first, &[st(2), cp(2), read(), mv(1), arith(SUB), cp(2), write(), ret()]]);
+            bank(vec![N, N], vec![R], vec![], code)
+        }
+        Id::Has => bank(vec![N], vec![], vec![N], vec![mv(0), exists(COIN), ret()]),
+        Id::Burn => bank(vec![N], vec![], vec![N, N], vec![mv(0), move_from(COIN), unpack(COIN), ret()]),
+        Id::Shift => bank(vec![N, N], vec![], vec![], vec![mv(0), move_from(COIN), mv(1), move_to(COIN), ret()]),
+        Id::PutToken => bank(vec![N], vec![], vec![], vec![pack(TOKEN), mv(0), move_to(TOKEN), ret()]),
+        Id::BoxUp => {
+            let code = vec![cp(0), move_from(COIN), load(5), pack(BOX), mv(0), move_to(BOX), ret()];
+            bank(vec![N], vec![], vec![], code)
+        }
+        Id::Unbox => {
+            let code = vec![cp(0), move_from(BOX), unpack(BOX), st(1), mv(0), move_to(COIN), mv(1), ret()];
+            bank(vec![N], vec![N], vec![N], code)
+        }
+        Id::BoxGet => {
+            let code = vec![mv(0), global(BOX), field(BOX, 0), field(COIN, 0), read(), ret()];
+            bank(vec![N], vec![], vec![N], code)
+        }
+        Id::BoxSet => {
+            let code = vec![mv(1), mv(0), global(BOX), field(BOX, 0), field(COIN, 1), write(), ret()];
+            bank(vec![N, N], vec![], vec![], code)
+        }
+        Id::MakeCrate => bank(vec![N, N], vec![], vec![], join(&[&crate_of(1), &[mv(0), move_to(CRATE), ret()]])),
+        Id::CrateSet => {
+            let way = [mv(0), global(CRATE), field(CRATE, 0), field(BOX, 0), field(COIN, 0)];
+            bank(vec![N, N], vec![], vec![], join(&[&[mv(1)], &way, &[write(), ret()]]))
+        }
+        _ => {
+            let apart = [cp(0), move_from(CRATE), unpack(CRATE)];
+            bank(vec![N], vec![], vec![], join(&[&apart, &BREAK, &[mv(0), move_to(BOX), ret()]]))
+        }
+    }
+}
+
+/// Pushes a crate: a box with a coin, and a coin.
+fn crate_of(local: u16) -> [Code; 9] {
+    [cp(local), load(1), pack(COIN), load(2), pack(BOX), cp(local), load(3), pack(COIN), pack(CRATE)]
+}
+
+fn many_records(id: Id) -> ProcPlan {
+    let coin = vec![cp(1), load(1), pack(COIN)];
+    match id {
+        Id::Fill => fill(COIN, &coin),
+        Id::FillBoxes => fill(BOX, &join(&[&coin, &[load(2), pack(BOX)]])),
+        Id::FillCrates => fill(CRATE, &crate_of(1)),
+        Id::Churn => {
+            let round = [load(1), load(2), pack(COIN), unpack(COIN), pop(), pop()];
+            let count = [cp(0), load(1), arith(SUB), st(0), jump(0)];
+            bank(vec![N], vec![], vec![], join(&[&[cp(0), jump_if(3), ret()], &round, &count]))
+        }
+        Id::Hold8 => hold(id, 8),
+        _ => hold(id, 9),
+    }
+}
+
+/// Local 0 counts down, local 1 is the address.
+fn fill(of: u16, make: &[Code]) -> ProcPlan {
+    let publish = [cp(1), move_to(of), cp(1), load(1), arith(ADD), st(1)];
+    let count = [cp(0), load(1), arith(SUB), st(0), jump(0)];
+    bank(vec![N, N], vec![], vec![], join(&[&[cp(0), jump_if(3), ret()], make, &publish, &count]))
+}
+
+/// Fills `count` locals with coins, calls itself if the parameter is not 0, then breaks the coins up.
+fn hold(id: Id, count: u16) -> ProcPlan {
+    let mut code = Vec::new();
+    for local in 1..=count {
+        code.extend([load(u64::from(local)), load(0), pack(COIN), st(local)]);
+    }
+    let here = code.len() as u16;
+    code.extend([cp(0), jump_if(here + 3), jump(here + 7), cp(0), load(1), arith(SUB), to(id)]);
+    for local in 1..=count {
+        code.push(mv(local));
+        code.extend(BREAK);
+    }
+    code.push(ret());
+    bank(vec![N], vec![C; usize::from(count)], vec![], code)
+}
+
+fn plain(id: Id) -> ProcPlan {
+    let again = |other: Id| vec![cp(0), jump_if(3), ret(), mv(0), load(1), arith(SUB), to(other), ret()];
+    match id {
+        Id::Deep => bank(vec![N], vec![], vec![], again(Id::Deep)),
+        Id::Ping => bank(vec![N], vec![], vec![], again(Id::Pong)),
+        Id::Pong => user(vec![N], vec![], vec![], again(Id::Ping)),
+        Id::Spin => {
+            let code = vec![cp(0), jump_if(3), ret(), cp(0), load(1), arith(SUB), st(0), jump(0)];
+            user(vec![N], vec![], vec![], code)
+        }
+        Id::Forever => user(vec![], vec![], vec![], vec![jump(0)]),
+        Id::Add => user(vec![N, N], vec![], vec![N], vec![mv(0), mv(1), arith(ADD), ret()]),
+        Id::Subtract => user(vec![N, N], vec![], vec![N], vec![mv(0), mv(1), arith(SUB), ret()]),
+        _ => {
+            let code = vec![cp(0), cp(1), arith(EQUAL), cp(0), cp(1), arith(LESS), cp(1), cp(0), arith(LESS), ret()];
+            user(vec![N, N], vec![], vec![N, N, N], code)
+        }
+    }
+}
+
+/// Locals: 0 a value or an address, 1 a coin, 2 a reference to a number, 3 a reference to a coin.
+fn record_references(id: Id) -> ProcPlan {
+    let make = [cp(0), load(2), pack(COIN), st(1)];
+    let borrow_field = [borrow(1), field(COIN, 0), st(2)];
+    let break_up = join(&[&[mv(1)], &BREAK]);
+    let use_field = [cp(2), read()];
+    let use_coin = [cp(3), field(COIN, 1), read()];
+    let borrow_stored = [cp(0), global(COIN), st(3)];
+    let break_stored = join(&[&[cp(0), move_from(COIN)], &BREAK]);
+    let code = match id {
+        Id::StaleField => join(&[&make, &borrow_field, &break_up, &use_field]),
+        Id::StaleReused => join(&[&make, &borrow_field, &break_up, &make, &use_field, &break_up]),
+        Id::StaleGlobal => join(&[&borrow_stored, &break_stored, &use_coin]),
+        Id::StaleReplaced => join(&[&borrow_stored, &break_stored, &make, &[mv(1), cp(0), move_to(COIN)], &use_coin]),
+        Id::Follow | Id::FollowToEnd => {
+            let keep = [cp(3), field(COIN, 0), st(2)];
+            let box_up = [cp(0), move_from(COIN), load(8), pack(BOX), cp(0), move_to(BOX)];
+            let write = [load(41), cp(2), write()];
+            let unbox = [cp(0), move_from(BOX), unpack(BOX), pop(), st(1)];
+            let end = match id {
+                Id::Follow => vec![mv(1), cp(0), move_to(COIN)],
+                _ => break_up,
+            };
+            join(&[&borrow_stored, &keep, &box_up, &write, &unbox, &end, &use_field])
+        }
+        Id::StaleRecordLocal => join(&[&make, &[borrow(1), st(3)], &break_up, &use_coin]),
+        Id::RefilledRecord => {
+            let other = [load(1), load(33), pack(COIN), st(1)];
+            join(&[&make, &[borrow(1), st(3)], &break_up, &other, &use_coin, &break_up])
+        }
+        Id::MovedAway => join(&[&make, &borrow_field, &[mv(1), cp(0), move_to(COIN)], &use_field]),
+        _ => join(&[&make, &[borrow(1), st(3)], &[mv(1), cp(0), move_to(COIN)], &use_coin]),
+    };
+    bank(vec![N], vec![C, R, CR], vec![N], join(&[&code, &[ret()]]))
+}
+
+/// Local 0 is a value, local 1 a reference to a number.
+fn local_references(id: Id) -> ProcPlan {
+    let lend = [cp(0), to(Id::Lend), st(1)];
+    let own = [borrow(0), st(1), mv(0), pop()];
+    match id {
+        Id::Lend => return user(vec![N], vec![], vec![R], vec![borrow(0), ret()]),
+        Id::Peek => return user(vec![N, R], vec![], vec![N], vec![mv(1), read(), ret()]),
+        Id::Poke => return user(vec![N, R], vec![], vec![], vec![mv(0), mv(1), write(), ret()]),
+        _ => {}
+    }
+    let code = match id {
+        Id::StaleFrame => join(&[&lend, &[cp(1), read()]]),
+        Id::StaleFrameReused => join(&[&lend, &[load(77), cp(1), to(Id::Peek)]]),
+        Id::StaleFrameWrite => join(&[&lend, &[cp(0), cp(1), write(), mv(0)]]),
+        Id::StaleEmpty => join(&[&own, &[mv(1), read()]]),
+        Id::StaleEmptyWrite => join(&[&own, &[load(3), cp(1), write(), load(4)]]),
+        Id::Refilled => join(&[&own, &[load(5), st(0), cp(1), read()]]),
+        Id::HandleStale => {
+            join(&[&lend, &[cp(1), pop(), mv(1), st(1), load(6), borrow(0), cp(1), pop(), to(Id::Peek)]])
+        }
+        _ => join(&[&[load(12), borrow(0), to(Id::Poke)], &[load(1), borrow(0), to(Id::Peek)]]),
+    };
+    user(vec![N], vec![R], vec![N], join(&[&code, &[ret()]]))
+}
+
+fn stopping(id: Id) -> ProcPlan {
+    match id {
+        Id::WriteStop => {
+            let both = [
+                cp(0),
+                global(COIN),
+                st(3),
+                cp(1),
+                cp(3),
+                field(COIN, 0),
+                write(),
+                cp(1),
+                cp(3),
+                field(COIN, 1),
+                write(),
+            ];
+            bank(vec![N, N, N], vec![CR], vec![], join(&[&both, &less_one(2), &[ret()]]))
+        }
+        Id::MoveStop => {
+            let shift = [mv(0), move_from(COIN), mv(1), move_to(COIN)];
+            bank(vec![N, N, N], vec![], vec![], join(&[&shift, &less_one(2), &[ret()]]))
+        }
+        Id::BurnStop => {
+            let burn = join(&[&[cp(0), move_from(COIN)], &BREAK]);
+            let again = [load(70), load(71), pack(COIN), cp(0), move_to(COIN)];
+            bank(vec![N, N], vec![], vec![], join(&[&burn, &again, &less_one(1), &[ret()]]))
+        }
+        Id::BoxStop => {
+            let boxing = [cp(0), move_from(COIN), load(5), pack(BOX), cp(0), move_to(BOX)];
+            let inside = [load(99), cp(0), global(BOX), field(BOX, 0), field(COIN, 0), write()];
+            bank(vec![N, N], vec![], vec![], join(&[&boxing, &inside, &less_one(1), &[ret()]]))
+        }
+        Id::DeepWriteStop => {
+            let code = vec![cp(0), cp(1), to(Id::Set), mv(0), mv(1), mv(2), to(Id::WriteStop), ret()];
+            user(vec![N, N, N], vec![], vec![], code)
+        }
+        _ => {
+            let code = join(&[&[mv(0), mv(1), to(Id::Fill)], &less_one(2), &[ret()]]);
+            user(vec![N, N, N], vec![], vec![], code)
+        }
+    }
+}
+
+/// Records and references to them in other hands.
+fn handed_out(id: Id) -> ProcPlan {
+    match id {
+        Id::Make => bank(vec![N], vec![], vec![C], vec![mv(0), load(3), pack(COIN), ret()]),
+        Id::Break => bank(vec![C], vec![], vec![N], vec![mv(0), unpack(COIN), pop(), ret()]),
+        Id::Value => bank(vec![CR], vec![], vec![N], vec![mv(0), field(COIN, 0), read(), ret()]),
+        Id::Pay => {
+            let code = vec![mv(0), cp(2), to(Id::Take), mv(1), mv(2), to(Id::Bump), ret()];
+            user(vec![N, N, N], vec![], vec![], code)
+        }
+        Id::Carry => {
+            let code =
+                vec![mv(0), to(Id::Make), st(1), borrow(1), to(Id::Value), mv(1), to(Id::Break), arith(ADD), ret()];
+            user(vec![N], vec![C], vec![N], code)
+        }
+        Id::PutNote => user(vec![N, N], vec![], vec![], vec![mv(1), pack(NOTE), mv(0), move_to(NOTE), ret()]),
+        _ => user(vec![N], vec![], vec![N], vec![mv(0), global(NOTE), field(NOTE, 0), read(), ret()]),
+    }
+}
+
+/// A table of some kit procedures and the number of each.
+pub struct Kit {
+    pub plan: Plan,
+    ids: Vec<Id>,
+}
+
+impl Kit {
+    /// The wanted procedures, those that they call, and a few more.
+    pub fn new(rng: &mut Rng, wanted: &[Id]) -> Kit {
+        let mut ids = wanted.to_vec();
+        for _ in 0..rng.below(3) {
+            ids.push(rng.pick(&ALL));
+        }
+        let mut at = 0;
+        while at < ids.len() {
+            for code in procedure(ids[at]).code.iter().filter(|code| code.op == op::CALL) {
+                let callee = ALL[usize::from(code.b)];
+                if !ids.contains(&callee) {
+                    ids.push(callee);
+                }
+            }
+            at += 1;
+        }
+        ids.sort_by_key(|&id| (procedure(id).module, id));
+        ids.dedup();
+        let mut kit = Kit { plan: modules(rng), ids };
+        for &id in &kit.ids.clone() {
+            let mut one = procedure(id);
+            for code in one.code.iter_mut().filter(|code| code.op == op::CALL) {
+                code.b = kit.number(ALL[usize::from(code.b)]);
+            }
+            kit.plan.add_proc(one);
+        }
+        kit
+    }
+
+    pub fn number(&self, id: Id) -> u16 {
+        self.ids.iter().position(|&have| have == id).expect("the kit has the procedure") as u16
+    }
+
+    /// The procedures that a list can call, with their number of parameters.
+    pub fn entries(&self) -> Vec<(Id, usize)> {
+        let fits = |&id: &Id| {
+            let one = procedure(id);
+            let numbers = one.params.iter().chain(&one.results).all(|&sort| sort == N);
+            numbers.then_some((id, one.params.len()))
+        };
+        self.ids.iter().filter_map(fits).collect()
+    }
+}
+
+fn modules(rng: &mut Rng) -> Plan {
+    let trusted = rng.chance(80);
+    let mut plan = Plan { trusted: vec![trusted, rng.chance(20)], ..Plan::default() };
+    let guarded = trusted && rng.chance(80);
+    plan.add_type(BANK, &[(N, guarded), (N, trusted && rng.chance(30))]);
+    plan.add_type(BANK, &[(C, false), (N, false)]);
+    plan.add_type(BANK, &[(Sort::Record(BOX as u8), false), (C, false)]);
+    plan.add_type(BANK, &[]);
+    plan.add_type(USER, &[(N, false)]);
+    plan
+}

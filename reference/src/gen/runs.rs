@@ -1,0 +1,396 @@
+//! The made runs: case `number` of a seed is a table, a call list and the length of a text buffer.
+
+use super::kit::{Id, Kit, ALL};
+use super::plan::{argument_row, asm::call, call_row, Plan, ProcPlan};
+use super::rng::Rng;
+use super::tables;
+use crate::machine::{Machine, Outcome, Stop};
+use crate::program::{Program, Sort};
+use crate::row::{limit, write_rows, Row};
+
+#[derive(Clone, Debug)]
+pub struct Case {
+    pub table: Vec<u8>,
+    pub list: Vec<u8>,
+    pub text_len: usize,
+}
+
+/// Calls before their budgets are chosen.
+type Script = Vec<(Id, Vec<u64>)>;
+
+pub fn case(seed: u64, number: u64) -> Case {
+    let mut rng = Rng::stream(seed, 2, number);
+    let rng = &mut rng;
+    let mut text_len = limit::TEXT_BYTES + if rng.chance(5) { rng.below(5_000) } else { 0 };
+    let (table, list) = match rng.below(100) {
+        0..=19 => random_run(rng),
+        20..=27 => tangled_run(rng),
+        28..=62 => {
+            let stop = rng.within(31, 38) as u32;
+            let script = script(rng, stop);
+            kit_run(rng, &script)
+        }
+        63..=70 => {
+            let script = stopping_script(rng);
+            kit_run(rng, &script)
+        }
+        71..=78 => {
+            let script = any_script(rng);
+            kit_run(rng, &script)
+        }
+        79..=88 => bad_list(rng),
+        89..=92 => {
+            text_len = rng.pick(&[0, 1, 100, 65_535, 65_535, 65_535, 4_096]);
+            random_run(rng)
+        }
+        93..=96 => {
+            let (seed, number) = (rng.draw(), rng.below(1_000) as u64);
+            (tables::table(seed, number), some_bytes(rng))
+        }
+        97 => (tables::accepted(rng), Vec::new()),
+        _ => longest_list(rng),
+    };
+    Case { table, list, text_len }
+}
+
+fn some_bytes(rng: &mut Rng) -> Vec<u8> {
+    let length = rng.below(70);
+    (0..length).map(|_| rng.below(3) as u8).collect()
+}
+
+// Budgets.
+
+/// Writes calls as a list. Budgets are ample, just enough, one less, one more, or small: what is enough is found by
+/// running each call on the machine that the calls before it left.
+fn list_of(rng: &mut Rng, program: &Program, calls: &[(u16, Vec<u64>)]) -> Vec<u8> {
+    let mut machine = Machine::new(program);
+    let mut rows = Vec::new();
+    for (procedure, arguments) in calls {
+        let number = usize::from(*procedure);
+        let (outcome, done) = machine.clone().call(number, arguments, limit::BUDGET);
+        let needed = match outcome {
+            Outcome::Done(_) => done,
+            Outcome::Stopped { stop: Stop::Budget, .. } => rng.within(1, 500) as u32,
+            // The stopping instruction must come up with budget left.
+            Outcome::Stopped { .. } => done + 1,
+        };
+        let budget = match rng.below(20) {
+            0..=10 => limit::BUDGET,
+            11..=14 => needed,
+            15 | 16 => needed.saturating_sub(1),
+            17 | 18 => needed + 1,
+            _ => 1 + rng.below(12) as u32,
+        };
+        let budget = budget.clamp(1, limit::BUDGET);
+        machine.call(number, arguments, budget);
+        rows.push(call_row(*procedure, budget));
+        rows.extend(arguments.iter().map(|&number| argument_row(number)));
+    }
+    rows.truncate(limit::LIST_BYTES / 16);
+    write_rows(&rows)
+}
+
+fn some_number(rng: &mut Rng) -> u64 {
+    match rng.below(10) {
+        0 => u64::MAX - rng.below(2) as u64,
+        1 => rng.draw(),
+        2 => rng.below(1_000) as u64,
+        _ => rng.below(5) as u64,
+    }
+}
+
+// Runs of made tables.
+
+/// Public procedures of numbers, with their number of parameters.
+fn entries(program: &Program) -> Vec<(u16, usize)> {
+    let numbers = |sorts: &[Sort]| sorts.iter().all(|&sort| sort == Sort::Number);
+    let fits = |number: &usize| {
+        let one = &program.procedures[*number];
+        one.public && numbers(program.params(one)) && numbers(program.results(one))
+    };
+    (0..program.procedures.len())
+        .filter(fits)
+        .map(|number| (number as u16, program.procedures[number].params))
+        .collect()
+}
+
+fn run_of(rng: &mut Rng, table: Vec<u8>) -> (Vec<u8>, Vec<u8>) {
+    let Ok(program) = crate::admit(&table) else {
+        let rows = [call_row(0, 100), argument_row(1)];
+        return (table, write_rows(&rows));
+    };
+    let entries = entries(&program);
+    let mut calls = Vec::new();
+    if !entries.is_empty() {
+        for _ in 0..rng.within(1, 8) {
+            let (procedure, params) = rng.pick(&entries);
+            calls.push((procedure, (0..params).map(|_| some_number(rng)).collect()));
+        }
+    }
+    let list = list_of(rng, &program, &calls);
+    (table, list)
+}
+
+pub fn random_run(rng: &mut Rng) -> (Vec<u8>, Vec<u8>) {
+    let table = tables::accepted(rng);
+    run_of(rng, table)
+}
+
+/// A table of tangled walks, accepted if one is found soon.
+pub fn tangled_run(rng: &mut Rng) -> (Vec<u8>, Vec<u8>) {
+    let mut table = tables::tangled(rng);
+    for _ in 0..8 {
+        let runs = crate::admit(&table).is_ok_and(|program| !entries(&program).is_empty());
+        if runs {
+            break;
+        }
+        table = tables::tangled(rng);
+    }
+    run_of(rng, table)
+}
+
+// Runs of kit procedures.
+
+fn kit_run(rng: &mut Rng, script: &Script) -> (Vec<u8>, Vec<u8>) {
+    let wanted: Vec<Id> = script.iter().map(|&(id, _)| id).collect();
+    let kit = Kit::new(rng, &wanted);
+    let table = kit.plan.bytes();
+    let program = crate::admit(&table).expect("kit procedures are accepted");
+    let calls: Vec<(u16, Vec<u64>)> =
+        script.iter().map(|(id, arguments)| (kit.number(*id), arguments.clone())).collect();
+    let list = list_of(rng, &program, &calls);
+    (table, list)
+}
+
+fn address(rng: &mut Rng) -> u64 {
+    rng.below(3) as u64
+}
+
+/// Calls that bring the stop, with others around them.
+fn script(rng: &mut Rng, stop: u32) -> Script {
+    let mut calls = Script::new();
+    for _ in 0..rng.below(4) {
+        calls.push((Id::Mint, vec![address(rng), some_number(rng)]));
+    }
+    let at = address(rng);
+    match stop {
+        31 => {
+            let rounds = rng.below(40) as u64;
+            calls.push(if rng.chance(50) { (Id::Forever, vec![]) } else { (Id::Spin, vec![rounds]) });
+            calls.push((Id::Set, vec![at, 5]));
+        }
+        32 => calls.extend(arithmetic(rng)),
+        33 => {
+            let other = rng.pick(&[Id::Mint, Id::MakeCrate]);
+            calls.push((other, vec![at, 3]));
+            calls.push((other, vec![at, 4]));
+            calls.push((Id::Shift, vec![at, address(rng)]));
+        }
+        34 => {
+            let missing = at + 10;
+            let one = [Id::Get, Id::Burn, Id::Has, Id::BoxGet, Id::Unbox, Id::NoteGet, Id::Uncrate];
+            calls.push((rng.pick(&one), vec![missing]));
+            calls.push((rng.pick(&one), vec![at]));
+            calls.push((Id::Shift, vec![missing, at]));
+        }
+        35 => {
+            for _ in 0..rng.within(1, 3) {
+                let id = rng.pick(&STALE);
+                calls.push((Id::Mint, vec![at, 6]));
+                calls.push((id, vec![at]));
+            }
+        }
+        36 => {
+            let id = rng.pick(&[Id::Deep, Id::Ping, Id::Deep, Id::Hold8]);
+            calls.push((id, vec![rng.within(14, 17) as u64]));
+        }
+        37 => calls.extend(many_records(rng)),
+        _ => calls.extend(many_entries(rng)),
+    }
+    for _ in 0..rng.below(3) {
+        let id = rng.pick(&[Id::Get, Id::Has, Id::Burn]);
+        calls.push((id, vec![address(rng)]));
+    }
+    calls
+}
+
+const STALE: [Id; 21] = [
+    Id::StaleField,
+    Id::StaleReused,
+    Id::StaleGlobal,
+    Id::StaleReplaced,
+    Id::Follow,
+    Id::FollowToEnd,
+    Id::StaleFrame,
+    Id::StaleFrameReused,
+    Id::StaleFrameWrite,
+    Id::StaleEmpty,
+    Id::StaleEmptyWrite,
+    Id::Refilled,
+    Id::StaleRecordLocal,
+    Id::RefilledRecord,
+    Id::MovedAway,
+    Id::StaleMovedAway,
+    Id::HandleStale,
+    Id::WriteUp,
+    Id::StaleReused,
+    Id::StaleReplaced,
+    Id::StaleFrameReused,
+];
+
+fn arithmetic(rng: &mut Rng) -> Script {
+    let mut calls = Script::new();
+    let near = [0, 1, u64::MAX, u64::MAX - 1, 1 << 63, (1 << 63) - 1];
+    for _ in 0..rng.within(1, 4) {
+        let id = rng.pick(&[Id::Add, Id::Subtract, Id::Compare]);
+        calls.push((id, vec![rng.pick(&near), rng.pick(&near)]));
+    }
+    let id = rng.pick(&[Id::Bump, Id::Take]);
+    calls.push((id, vec![address(rng), rng.pick(&near)]));
+    calls
+}
+
+/// Comes to 127, 128 or 129 records.
+fn many_records(rng: &mut Rng) -> Script {
+    let mut calls = match rng.below(4) {
+        0 => {
+            let count = rng.within(31, 33) as u64;
+            vec![(Id::FillCrates, vec![count, 100]), (Id::Mint, vec![50, 1]), (Id::Mint, vec![51, 1])]
+        }
+        1 => {
+            let count = rng.within(62, 65) as u64;
+            vec![(Id::FillBoxes, vec![count, 100]), (Id::Unbox, vec![101]), (Id::Mint, vec![50, 1])]
+        }
+        2 => vec![(Id::Hold9, vec![rng.within(12, 15) as u64])],
+        _ => {
+            let frames = rng.within(13, 16) as u64;
+            let coins = rng.within(0, 17) as u64;
+            vec![(Id::Fill, vec![coins, 200]), (Id::Hold8, vec![frames - 1])]
+        }
+    };
+    // Records broken up make room for others.
+    if rng.chance(60) {
+        let last = calls[calls.len() - 1].clone();
+        calls.push((Id::Churn, vec![rng.pick(&[1, 2, 127, 130, 200])]));
+        calls.push(last);
+    }
+    calls
+}
+
+/// Comes to 63, 64 or 65 entries, and meets taken keys there.
+fn many_entries(rng: &mut Rng) -> Script {
+    let count = rng.within(61, 65) as u64;
+    let mut calls = vec![(Id::Fill, vec![count, 100])];
+    for _ in 0..rng.within(1, 4) {
+        let at = rng.pick(&[0, 1, 100, 101, 300]);
+        calls.push(match rng.below(5) {
+            0 => (Id::PutToken, vec![at]),
+            1 => (Id::BoxUp, vec![at]),
+            2 => (Id::PutNote, vec![at, 8]),
+            3 => (Id::Burn, vec![at]),
+            _ => (Id::Mint, vec![at, 7]),
+        });
+    }
+    calls
+}
+
+/// Calls that change the store in every way and then stop, among calls that look at it.
+fn stopping_script(rng: &mut Rng) -> Script {
+    let mut calls = vec![(Id::Mint, vec![0, 10]), (Id::Mint, vec![1, 20])];
+    for _ in 0..rng.within(1, 5) {
+        let (at, x) = (address(rng), u64::from(rng.chance(25)));
+        calls.push(match rng.below(8) {
+            0 => (Id::WriteStop, vec![at, 55, x]),
+            1 => (Id::MoveStop, vec![at, address(rng) + 3, x]),
+            2 => (Id::BurnStop, vec![at, x]),
+            3 => (Id::BoxStop, vec![at, x]),
+            4 => (Id::DeepWriteStop, vec![at, 66, x]),
+            5 => (Id::FillStop, vec![rng.below(4) as u64, 8, x]),
+            6 => (Id::Bump, vec![at, 1]),
+            _ => (Id::Get, vec![at]),
+        });
+    }
+    calls.push((Id::Get, vec![address(rng)]));
+    calls
+}
+
+fn any_script(rng: &mut Rng) -> Script {
+    let wanted: Vec<Id> = (0..rng.within(2, 6)).map(|_| rng.pick(&ALL)).chain([Id::Mint]).collect();
+    let entries = Kit::new(rng, &wanted).entries();
+    let mut calls = Script::new();
+    for _ in 0..rng.within(3, 14) {
+        let (id, params) = rng.pick(&entries);
+        calls.push((id, (0..params).map(|_| rng.below(4) as u64).collect()));
+    }
+    calls
+}
+
+/// 256 rows: the longest good list.
+fn longest_list(rng: &mut Rng) -> (Vec<u8>, Vec<u8>) {
+    let mut script = Script::new();
+    for number in 0..85 {
+        script.push((Id::Mint, vec![number % 70, number]));
+    }
+    script.push((Id::Forever, vec![]));
+    kit_run(rng, &script)
+}
+
+// Lists that are refused.
+
+fn bad_list(rng: &mut Rng) -> (Vec<u8>, Vec<u8>) {
+    let script = stopping_script(rng);
+    let kit =
+        Kit::new(rng, &[&[Id::Lend, Id::Value][..], &script.iter().map(|&(id, _)| id).collect::<Vec<_>>()].concat());
+    let mut plan = kit.plan.clone();
+    if rng.chance(30) {
+        hide_some(&mut plan, rng);
+    }
+    let mut rows = Vec::new();
+    for (id, arguments) in &script {
+        rows.push(call_row(kit.number(*id), rng.pick(&[1, 50, 65_535])));
+        rows.extend(arguments.iter().map(|&number| argument_row(number)));
+    }
+    for _ in 0..rng.within(1, 2) {
+        spoil(rng, &mut rows, &kit);
+    }
+    let mut list = write_rows(&rows);
+    match rng.below(12) {
+        0 => list.truncate(list.len() - rng.within(1, 15)),
+        1 => list.resize(limit::LIST_BYTES + 16, 0),
+        _ => {}
+    }
+    (plan.bytes(), list)
+}
+
+/// Makes a procedure private that no other module calls.
+fn hide_some(plan: &mut Plan, rng: &mut Rng) {
+    let calls = |one: &ProcPlan, number: usize| one.code.contains(&call(number as u16));
+    let called = |number: usize, module: usize| plan.procs.iter().any(|one| one.module != module && calls(one, number));
+    let free: Vec<usize> = (0..plan.procs.len()).filter(|&number| !called(number, plan.procs[number].module)).collect();
+    if !free.is_empty() {
+        let number = rng.pick(&free);
+        plan.procs[number].public = false;
+    }
+}
+
+fn spoil(rng: &mut Rng, rows: &mut Vec<Row>, kit: &Kit) {
+    let at = rng.below(rows.len());
+    let calls: Vec<usize> = (0..rows.len()).filter(|&at| rows[at].kind == 1).collect();
+    let chosen = if calls.is_empty() { at } else { rng.pick(&calls) };
+    match rng.below(14) {
+        0 => rows[at].kind = rng.pick(&[0, 3, 4, 255]),
+        1 => rows[at].a = 1 + rng.below(255) as u8,
+        2 => rows[at].d = if rows[at].kind == 1 { 1 << rng.below(64) } else { rows[at].d },
+        3 if rows[at].kind == 2 => rows[at].c = 1 << rng.below(32),
+        4 if rows[at].kind == 2 => rows[at].b = 1 << rng.below(16),
+        5 => rows.insert(0, argument_row(1)),
+        6 => rows[chosen].b = kit.plan.procs.len() as u16 + rng.below(3) as u16,
+        7 | 12 | 13 => rows[chosen].c = rng.pick(&[0, 65_536, 65_536, 65_537, 1 << 31]),
+        8 => rows[chosen].b = kit.number(rng.pick(&[Id::Lend, Id::Value])),
+        9 => rows.insert(chosen + 1, argument_row(5)),
+        10 => {
+            rows.remove(at);
+        }
+        _ => rows[chosen].b = rng.below(kit.plan.procs.len()) as u16,
+    }
+}

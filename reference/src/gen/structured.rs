@@ -1,0 +1,119 @@
+//! Tables that the judge accepts: modules, types and signatures at random, bodies by `body`.
+
+use super::body::write_body;
+use super::plan::{Plan, ProcPlan};
+use super::rng::Rng;
+use crate::program::Sort;
+
+/// How large a table is to be.
+#[derive(Clone, Copy, Debug)]
+pub struct Size {
+    pub modules: usize,
+    pub types: usize,
+    pub procs: usize,
+    pub statements: usize,
+    pub most_code: usize,
+}
+
+pub const SMALL: Size = Size { modules: 2, types: 2, procs: 2, statements: 2, most_code: 24 };
+pub const MIDDLE: Size = Size { modules: 3, types: 3, procs: 3, statements: 4, most_code: 48 };
+pub const LARGE: Size = Size { modules: 5, types: 3, procs: 4, statements: 8, most_code: 160 };
+
+pub fn some_size(rng: &mut Rng) -> Size {
+    match rng.below(30) {
+        0..=23 => SMALL,
+        24..=28 => MIDDLE,
+        _ => LARGE,
+    }
+}
+
+pub fn plan(rng: &mut Rng, size: Size) -> Plan {
+    let mut plan = Plan::default();
+    for _ in 0..rng.within(1, size.modules) {
+        plan.trusted.push(rng.chance(60));
+    }
+    for module in 0..plan.trusted.len() {
+        add_types(&mut plan, rng, module, size);
+    }
+    for module in 0..plan.trusted.len() {
+        add_procs(&mut plan, rng, module, size);
+    }
+    for me in 0..plan.procs.len() {
+        let statements = rng.within(0, size.statements);
+        plan.procs[me].code = write_body(&plan, rng, me, statements, size.most_code);
+    }
+    plan
+}
+
+fn add_types(plan: &mut Plan, rng: &mut Rng, module: usize, size: Size) {
+    for _ in 0..rng.within(0, size.types) {
+        let own: Vec<usize> = (0..plan.types.len()).filter(|&of| plan.types[of].module == module).collect();
+        let mut fields = Vec::new();
+        for _ in 0..rng.weighted(&[(1, 0), (4, 1), (4, 2), (2, 3), (1, 4)]).unwrap_or(1) {
+            let nested = if rng.chance(15) { (0..plan.types.len()).collect() } else { own.clone() };
+            if !nested.is_empty() && rng.chance(40) {
+                fields.push((Sort::Record(rng.pick(&nested) as u8), false));
+            } else {
+                fields.push((Sort::Number, plan.trusted[module] && rng.chance(60)));
+            }
+        }
+        plan.add_type(module, &fields);
+    }
+}
+
+/// Makers and droppers of the module's types, so that other modules can have their records, then anything.
+fn add_procs(plan: &mut Plan, rng: &mut Rng, module: usize, size: Size) {
+    let own: Vec<usize> = (0..plan.types.len()).filter(|&of| plan.types[of].module == module).collect();
+    for of in own {
+        if rng.chance(45) {
+            let record = Sort::Record(of as u8);
+            let public = rng.chance(85);
+            let params = vec![Sort::Number; rng.below(3)];
+            plan.add_proc(ProcPlan { module, public, params, results: vec![record], ..ProcPlan::default() });
+            let results = vec![Sort::Number; rng.below(2)];
+            plan.add_proc(ProcPlan { module, public, params: vec![record], results, ..ProcPlan::default() });
+        }
+    }
+    for _ in 0..rng.within(1, size.procs) {
+        let entry = rng.chance(50);
+        let procedure = some_proc(plan, rng, module, entry);
+        plan.add_proc(procedure);
+    }
+}
+
+/// A procedure without a body. An entry can be called by a list: public, numbers only.
+fn some_proc(plan: &Plan, rng: &mut Rng, module: usize, entry: bool) -> ProcPlan {
+    let sorts = |rng: &mut Rng, most: usize, numbers: bool, results: bool| -> Vec<Sort> {
+        (0..rng.within(0, most))
+            .map(|_| if numbers { Sort::Number } else { some_sort(plan, rng, module, results) })
+            .collect()
+    };
+    ProcPlan {
+        module,
+        public: entry || rng.chance(50),
+        params: sorts(rng, 3, entry, false),
+        others: sorts(rng, 5, false, false),
+        results: sorts(rng, 2, entry, true),
+        code: Vec::new(),
+    }
+}
+
+fn some_sort(plan: &Plan, rng: &mut Rng, module: usize, result: bool) -> Sort {
+    let of = if plan.types.is_empty() { None } else { Some(rng.below(plan.types.len())) };
+    let usable = of.is_some_and(|of| has_maker_and_dropper(plan, module, of));
+    match (rng.below(10), of) {
+        (0..=2, Some(of)) if usable => Sort::Record(of as u8),
+        (3..=4, Some(of)) if !result || plan.types[of].module == module => Sort::RecordRef(of as u8),
+        (5, _) => Sort::NumberRef,
+        (6, _) if !result => Sort::NumberRef,
+        _ => Sort::Number,
+    }
+}
+
+/// Whether code of the module can surely make and get rid of records of the type.
+fn has_maker_and_dropper(plan: &Plan, module: usize, of: usize) -> bool {
+    let record = [Sort::Record(of as u8)];
+    let made = plan.procs.iter().any(|one| one.public && one.results == record);
+    let dropped = plan.procs.iter().any(|one| one.public && one.params == record);
+    plan.types[of].module == module || (made && dropped)
+}

@@ -1,0 +1,76 @@
+//! The made tables: table `number` of a seed.
+
+use super::rng::Rng;
+use super::structured::{self, some_size};
+use super::wild::{self, Flavour};
+use super::{faults, limits, mutate, row_faults};
+use crate::row::{kind, write_rows, Row};
+
+/// Every so many tables one of the tables at the limits.
+const LIMIT_EVERY: u64 = 25;
+
+/// Refusals that mutations seldom bring are aimed at more often.
+const TARGETS: [u32; 24] = [1, 2, 3, 4, 4, 5, 6, 6, 7, 7, 8, 8, 9, 10, 10, 11, 11, 12, 12, 13, 13, 13, 14, 14];
+
+pub fn table(seed: u64, number: u64) -> Vec<u8> {
+    if number % LIMIT_EVERY == LIMIT_EVERY - 1 {
+        return limits::table((number / LIMIT_EVERY) as usize % limits::TABLES);
+    }
+    let mut rng = Rng::stream(seed, 1, number);
+    match rng.below(100) {
+        0..=16 => accepted(&mut rng),
+        17..=34 => mutated(&mut rng),
+        35..=91 => {
+            let number = rng.pick(&TARGETS);
+            faults::table(&mut rng, number)
+        }
+        92..=97 => faults::table_of_many(&mut rng),
+        _ => noise(&mut rng),
+    }
+}
+
+/// A table that the judge accepts.
+pub fn accepted(rng: &mut Rng) -> Vec<u8> {
+    let size = some_size(rng);
+    structured::plan(rng, size).bytes()
+}
+
+/// A well-typed table that the judge may refuse for its locals or leaks.
+pub fn tangled(rng: &mut Rng) -> Vec<u8> {
+    let flavour = rng.pick(&[Flavour::Locals, Flavour::Records, Flavour::Leaks, Flavour::Broad]);
+    wild::plan(rng, flavour).bytes()
+}
+
+/// A good table with one to three small changes.
+fn mutated(rng: &mut Rng) -> Vec<u8> {
+    let mut rows = if rng.chance(75) {
+        let size = some_size(rng);
+        structured::plan(rng, size).rows()
+    } else {
+        wild::plan(rng, Flavour::Leaks).rows()
+    };
+    for _ in 0..rng.within(1, 3) {
+        if rng.chance(15) {
+            row_faults::stray_instruction(&mut rows, rng);
+        } else {
+            mutate::mutate(&mut rows, rng);
+        }
+    }
+    write_rows(&rows)
+}
+
+/// Random bytes, and random rows of good kinds.
+fn noise(rng: &mut Rng) -> Vec<u8> {
+    let count = rng.below(12);
+    match rng.below(3) {
+        0 => (0..rng.below(200)).map(|_| rng.draw() as u8).collect(),
+        1 => (0..count * 16).map(|_| if rng.chance(70) { 0 } else { rng.draw() as u8 }).collect(),
+        _ => {
+            let mut rows: Vec<Row> = (0..=count)
+                .map(|_| Row { kind: rng.within(1, 7) as u8, a: rng.below(3) as u8, ..Row::default() })
+                .collect();
+            rows[0].kind = kind::MODULE;
+            write_rows(&rows)
+        }
+    }
+}

@@ -1,0 +1,159 @@
+//! The program `reference`: see README.md for its commands.
+
+use reference::gen::{runs, tables};
+use reference::Refusal;
+use std::collections::BTreeMap;
+use std::io::Write;
+use std::path::Path;
+use std::process::ExitCode;
+
+const USAGE: &str = "usage:
+  reference judge FILE
+  reference run TABLE CALLS
+  reference made SEED COUNT OUTDIR
+  reference made-runs SEED COUNT OUTDIR
+  reference histogram SEED COUNT";
+
+fn main() -> ExitCode {
+    let words: Vec<String> = std::env::args().skip(1).collect();
+    let words: Vec<&str> = words.iter().map(String::as_str).collect();
+    let done = match words[..] {
+        ["judge", file] => judge(file),
+        ["run", table, calls] => run(table, calls),
+        ["made", seed, count, dir] => numbers(seed, count).and_then(|(seed, count)| made(seed, count, dir)),
+        ["made-runs", seed, count, dir] => numbers(seed, count).and_then(|(seed, count)| made_runs(seed, count, dir)),
+        ["histogram", seed, count] => numbers(seed, count).and_then(|(seed, count)| histogram(seed, count)),
+        _ => Err(USAGE.to_string()),
+    };
+    match done {
+        Ok(()) => ExitCode::SUCCESS,
+        Err(message) => {
+            eprintln!("{message}");
+            ExitCode::from(2)
+        }
+    }
+}
+
+fn numbers(seed: &str, count: &str) -> Result<(u64, u64), String> {
+    let number = |word: &str| word.parse::<u64>().map_err(|_| format!("not a number: {word}\n{USAGE}"));
+    Ok((number(seed)?, number(count)?))
+}
+
+fn read(file: &str) -> Result<Vec<u8>, String> {
+    std::fs::read(file).map_err(|error| format!("cannot read {file}: {error}"))
+}
+
+fn write(dir: &str, name: &str, bytes: &[u8]) -> Result<(), String> {
+    let path = Path::new(dir).join(name);
+    std::fs::create_dir_all(dir)
+        .and_then(|()| std::fs::write(&path, bytes))
+        .map_err(|error| format!("cannot write {}: {error}", path.display()))
+}
+
+fn print(bytes: &[u8]) -> Result<(), String> {
+    std::io::stdout().write_all(bytes).map_err(|error| format!("cannot print: {error}"))
+}
+
+fn judge_line(verdict: Result<usize, Refusal>) -> String {
+    match verdict {
+        Ok(rows) => format!("accepted {rows}\n"),
+        Err(refusal) => refusal_line(refusal),
+    }
+}
+
+fn refusal_line((number, row): Refusal) -> String {
+    format!("refused {number} row {row}\n")
+}
+
+fn run_text(answer: Result<Vec<u8>, Refusal>) -> Vec<u8> {
+    answer.unwrap_or_else(|refusal| refusal_line(refusal).into_bytes())
+}
+
+fn judge(file: &str) -> Result<(), String> {
+    let table = read(file)?;
+    print(judge_line(reference::judge(&table)).as_bytes())
+}
+
+fn run(table: &str, calls: &str) -> Result<(), String> {
+    let (table, list) = (read(table)?, read(calls)?);
+    print(&run_text(reference::run(&table, &list, reference::row::limit::TEXT_BYTES)))
+}
+
+fn put_counted(container: &mut Vec<u8>, bytes: &[u8]) {
+    container.extend_from_slice(&(bytes.len() as u32).to_le_bytes());
+    container.extend_from_slice(bytes);
+}
+
+fn made(seed: u64, count: u64, dir: &str) -> Result<(), String> {
+    let mut container = Vec::new();
+    let mut expected = String::new();
+    for number in 0..count {
+        let table = tables::table(seed, number);
+        expected.push_str(&judge_line(reference::judge(&table)));
+        put_counted(&mut container, &table);
+    }
+    write(dir, "tables.bin", &container)?;
+    write(dir, "stdout", expected.as_bytes())
+}
+
+fn made_runs(seed: u64, count: u64, dir: &str) -> Result<(), String> {
+    let mut container = Vec::new();
+    let mut expected = Vec::new();
+    for number in 0..count {
+        let case = runs::case(seed, number);
+        expected.extend_from_slice(format!("case {number}\n").as_bytes());
+        expected.extend_from_slice(&run_text(reference::run(&case.table, &case.list, case.text_len)));
+        put_counted(&mut container, &case.table);
+        put_counted(&mut container, &case.list);
+        container.extend_from_slice(&(case.text_len as u32).to_le_bytes());
+    }
+    write(dir, "cases.bin", &container)?;
+    write(dir, "stdout", &expected)
+}
+
+/// How often each verdict comes among made tables, and each refusal and call's end among made runs.
+fn histogram(seed: u64, count: u64) -> Result<(), String> {
+    let mut verdicts: BTreeMap<u32, u64> = BTreeMap::new();
+    let mut ends: BTreeMap<(u8, u32), u64> = BTreeMap::new();
+    for number in 0..count {
+        let verdict = reference::judge(&tables::table(seed, number)).map_or_else(|refusal| refusal.0, |_| 0);
+        *verdicts.entry(verdict).or_default() += 1;
+        let case = runs::case(seed, number);
+        for end in call_ends(reference::run(&case.table, &case.list, case.text_len)) {
+            *ends.entry(end).or_default() += 1;
+        }
+    }
+    let mut lines = format!("{count} tables\n");
+    for (number, times) in verdicts {
+        let what = if number == 0 { "accepted".to_string() } else { format!("refused {number}") };
+        lines.push_str(&format!("  {what}: {times}\n"));
+    }
+    lines.push_str(&format!("{count} runs\n"));
+    for ((_, number), times) in ends {
+        let what = match number {
+            0 => "run through".to_string(),
+            1..=17 => format!("refused {number}"),
+            30 => "calls done".to_string(),
+            _ => format!("calls stopped {number}"),
+        };
+        lines.push_str(&format!("  {what}: {times}\n"));
+    }
+    print(lines.as_bytes())
+}
+
+/// The refusal of a run, or 0 and for each call 30 (done) or its stop.
+fn call_ends(answer: Result<Vec<u8>, Refusal>) -> Vec<(u8, u32)> {
+    let text = match answer {
+        Ok(text) => text,
+        Err((number, _)) => return vec![(0, number)],
+    };
+    let stop = |line: &[u8]| {
+        let words: Vec<&str> = std::str::from_utf8(line).unwrap_or("").split(' ').collect();
+        let stop = words.get(3).filter(|_| words.get(2) == Some(&"stop"));
+        stop.and_then(|number| number.parse().ok()).unwrap_or(30)
+    };
+    let (calls, _) = reference::split_text(&text);
+    let mut ends = vec![(0, 0)];
+    ends.extend(calls.into_iter().map(|line| (1, stop(line))));
+    ends
+}

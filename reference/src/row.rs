@@ -1,0 +1,98 @@
+//! One row of a table or of a call list: 16 bytes, little-endian, unsigned.
+
+pub const ROW_BYTES: usize = 16;
+
+#[derive(Clone, Copy, Debug, Default, PartialEq, Eq)]
+pub struct Row {
+    pub kind: u8,
+    pub a: u8,
+    pub b: u16,
+    pub c: u32,
+    pub d: u64,
+}
+
+impl Row {
+    pub fn from_bytes(bytes: &[u8]) -> Row {
+        let bytes: [u8; ROW_BYTES] = bytes.try_into().expect("a row has 16 bytes");
+        let word = u128::from_le_bytes(bytes);
+        Row {
+            kind: word as u8,
+            a: (word >> 8) as u8,
+            b: (word >> 16) as u16,
+            c: (word >> 32) as u32,
+            d: (word >> 64) as u64,
+        }
+    }
+
+    pub fn to_bytes(self) -> [u8; ROW_BYTES] {
+        let word = u128::from(self.kind)
+            | u128::from(self.a) << 8
+            | u128::from(self.b) << 16
+            | u128::from(self.c) << 32
+            | u128::from(self.d) << 64;
+        word.to_le_bytes()
+    }
+}
+
+/// The whole rows of `bytes`; a shorter rest at the end is left out.
+pub fn read_rows(bytes: &[u8]) -> Vec<Row> {
+    bytes.chunks_exact(ROW_BYTES).map(Row::from_bytes).collect()
+}
+
+pub fn write_rows(rows: &[Row]) -> Vec<u8> {
+    rows.iter().flat_map(|row| row.to_bytes()).collect()
+}
+
+/// Kinds of table rows.
+pub mod kind {
+    pub const MODULE: u8 = 1;
+    pub const TYPE: u8 = 2;
+    pub const FIELD: u8 = 3;
+    pub const PROCEDURE: u8 = 4;
+    pub const LOCAL: u8 = 5;
+    pub const RESULT: u8 = 6;
+    pub const INSTRUCTION: u8 = 7;
+}
+
+/// Opcodes, the A of an instruction row.
+pub mod op {
+    pub const POP: u8 = 0;
+    pub const LOAD_CONST: u8 = 1;
+    pub const MV_LOC: u8 = 2;
+    pub const CP_LOC: u8 = 3;
+    pub const ST_LOC: u8 = 4;
+    pub const BORROW_LOC: u8 = 5;
+    pub const READ_REF: u8 = 6;
+    pub const WRITE_REF: u8 = 7;
+    pub const BORROW_FLD: u8 = 8;
+    pub const PACK: u8 = 9;
+    pub const UNPACK: u8 = 10;
+    pub const MOVE_TO: u8 = 11;
+    pub const MOVE_FROM: u8 = 12;
+    pub const BORROW_GLOBAL: u8 = 13;
+    pub const EXISTS: u8 = 14;
+    pub const CALL: u8 = 15;
+    pub const RET: u8 = 16;
+    pub const BRANCH: u8 = 17;
+    pub const BRANCH_COND: u8 = 18;
+    pub const OP: u8 = 19;
+}
+
+/// Limits of document 01.
+pub mod limit {
+    pub const ROWS: usize = 2_048;
+    pub const MODULES: usize = 16;
+    pub const TYPES: usize = 64;
+    pub const FIELDS: usize = 8;
+    pub const PROCEDURES: usize = 128;
+    pub const LOCALS: usize = 16;
+    pub const RESULTS: usize = 4;
+    pub const INSTRUCTIONS: usize = 256;
+    pub const OPERANDS: usize = 16;
+    pub const LIST_BYTES: usize = 4_096;
+    pub const TEXT_BYTES: usize = 65_536;
+    pub const BUDGET: u32 = 65_535;
+    pub const FRAMES: usize = 16;
+    pub const RECORDS: usize = 128;
+    pub const ENTRIES: usize = 64;
+}

@@ -1,0 +1,57 @@
+//! The text of a run.
+
+use crate::machine::{Machine, Outcome};
+use crate::program::Program;
+use std::io::Write;
+
+/// Writes one `call` line.
+pub fn write_call(text: &mut Vec<u8>, number: usize, outcome: &Outcome) {
+    match outcome {
+        Outcome::Done(results) => {
+            put(text, format_args!("call {number} done"));
+            for result in results {
+                put(text, format_args!(" {result}"));
+            }
+        }
+        Outcome::Stopped { stop, row } => {
+            put(text, format_args!("call {number} stop {} row {row}", *stop as u32));
+        }
+    }
+    text.push(b'\n');
+}
+
+/// Writes one `store` line per entry, types rising and in a type the addresses rising.
+pub fn write_store(text: &mut Vec<u8>, machine: &Machine) {
+    for entry in machine.store() {
+        put(text, format_args!("store {} {}", entry.of, entry.address));
+        write_fields(text, machine, machine.entry_fields(entry));
+        text.push(b'\n');
+    }
+}
+
+fn write_fields(text: &mut Vec<u8>, machine: &Machine, (of, fields): (u8, &[u64])) {
+    let program: &Program = machine.program();
+    for (field, &inside) in program.fields(of).iter().zip(fields) {
+        if field.sort.is_record() {
+            let nested = machine.record_fields(inside as u8);
+            put(text, format_args!(" ({}", nested.0));
+            write_fields(text, machine, nested);
+            text.push(b')');
+        } else {
+            put(text, format_args!(" {inside}"));
+        }
+    }
+}
+
+fn put(text: &mut Vec<u8>, words: std::fmt::Arguments) {
+    text.write_fmt(words).expect("writing to memory does not fail");
+}
+
+/// A text as its call lines in their order and its store lines sorted by their bytes. Two texts say the same if
+/// these are equal: the order of store lines is free.
+pub fn split_text(text: &[u8]) -> (Vec<&[u8]>, Vec<&[u8]>) {
+    let lines = text.split_inclusive(|&byte| byte == b'\n');
+    let (mut store, calls): (Vec<&[u8]>, Vec<&[u8]>) = lines.partition(|line| line.starts_with(b"store "));
+    store.sort_unstable();
+    (calls, store)
+}

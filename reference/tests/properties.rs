@@ -1,0 +1,305 @@
+//! What holds of all made inputs.
+
+use reference::gen::rng::Rng;
+use reference::gen::{limits, runs, structured, tables, wild};
+use reference::machine::{Machine, Outcome, Reference, Value, Watch};
+use reference::program::{Instr, Procedure, Program, Sort};
+use reference::walks::{joint, places};
+use std::collections::BTreeMap;
+
+#[test]
+fn judging_is_deterministic() {
+    for number in 0..1_500 {
+        let table = tables::table(11, number);
+        assert_eq!(table, tables::table(11, number));
+        let lent = table.clone();
+        let verdict = reference::judge(&table);
+        assert_eq!(verdict, reference::judge(&table));
+        assert_eq!(table, lent);
+        match verdict {
+            Ok(rows) => assert_eq!(rows * 16, table.len()),
+            Err((number, row)) => {
+                assert!((1..=14).contains(&number));
+                assert!(row == 0 || row < table.len() / 16);
+            }
+        }
+    }
+}
+
+#[test]
+fn structured_tables_are_accepted() {
+    for number in 0..1_500 {
+        let mut rng = Rng::stream(12, 0, number);
+        let table = tables::accepted(&mut rng);
+        assert_eq!(reference::judge(&table), Ok(table.len() / 16), "table {number}");
+    }
+}
+
+#[test]
+fn limits_are_met_and_passed() {
+    for number in 0..limits::TABLES {
+        let table = limits::table(number);
+        let verdict = reference::judge(&table);
+        let refusal = verdict.err().map(|(refusal, _)| refusal);
+        let expected = match number {
+            _ if number % 2 == 0 => None,
+            15 => Some(8),
+            17 => Some(1),
+            _ => Some(3),
+        };
+        assert_eq!(refusal, expected, "table {number}");
+    }
+}
+
+/// Both explorations of walks give the same facts wherever the joint one ends.
+fn explorations_agree(program: &Program) -> usize {
+    let mut compared = 0;
+    for procedure in &program.procedures {
+        if let Some(facts) = joint(program, procedure, 2_000) {
+            assert_eq!(facts, places(program, procedure));
+            compared += 1;
+        }
+    }
+    compared
+}
+
+#[test]
+fn joint_walks_agree_with_single_places() {
+    let mut compared = 0;
+    for number in 0..1_000 {
+        let mut rng = Rng::stream(13, 0, number);
+        let tangled = tables::tangled(&mut rng);
+        compared += explorations_agree(&reference::type_check(&tangled).expect("well typed"));
+        if let Ok(program) = reference::type_check(&tables::table(13, number)) {
+            compared += explorations_agree(&program);
+        }
+    }
+    assert!(compared > 4_000, "{compared} procedures compared");
+}
+
+#[test]
+fn many_joint_states_are_judged_by_places() {
+    // Each of sixteen locals is filled or not, on the way to the last rows: 65,536 joint states there.
+    use reference::gen::plan::{asm::*, Plan, ProcPlan};
+    let locals = 16;
+    let mut code = Vec::new();
+    for local in 0..locals {
+        let next = code.len() as u16 + 4;
+        code.extend([load(0), jump_if(next), load(1), st(local)]);
+    }
+    code.extend([cp(9), pop(), ret()]);
+    let procedure = ProcPlan { public: true, others: vec![Sort::Number; 16], code, ..ProcPlan::default() };
+    let plan = Plan { trusted: vec![false], types: vec![], procs: vec![procedure] };
+    // Rows: the module, the procedure, 16 locals, 64 instructions; then CpLoc of a local that may be empty.
+    assert_eq!(reference::judge(&plan.bytes()), Err((11, 82)));
+    let program = reference::type_check(&plan.bytes()).expect("well typed");
+    assert!(joint(&program, &program.procedures[0], 2_000).is_none());
+}
+
+// Demand 3, watched while running.
+
+/// Looks at every state in which an instruction comes up.
+#[derive(Default)]
+struct Guard {
+    looked: u64,
+    guarded_seen: u64,
+}
+
+impl Watch for Guard {
+    fn comes_up(&mut self, machine: &Machine) {
+        self.looked += 1;
+        let program = machine.program();
+        let depth = machine.frame_count() - 1;
+        let inside = program.procedure(machine.frame_procedure(depth));
+        check_operands(machine, program, inside, depth);
+        for depth in 0..machine.frame_count() {
+            let module = program.procedure(machine.frame_procedure(depth)).module;
+            let locals = machine.frame_locals(depth).iter().copied().flatten();
+            for value in machine.frame_operands(depth).iter().copied().chain(locals) {
+                let Value::Ref(Reference::Field { of, field, .. }) = value else { continue };
+                if program.is_guarded(of, field) {
+                    self.guarded_seen += 1;
+                    assert!(program.is_trusted(module), "a guest holds a reference to a guarded field");
+                    assert_eq!(program.types[usize::from(of)].module, module);
+                }
+            }
+        }
+        assert!(machine.live_records() <= 128 && machine.store().len() <= 64 && machine.frame_count() <= 16);
+    }
+}
+
+/// No operand of the instruction that comes up is missing or of the wrong kind, and its local fits.
+fn check_operands(machine: &Machine, program: &Program, inside: &Procedure, depth: usize) {
+    let instr = machine.upcoming();
+    let have: Vec<Sort> = machine.frame_operands(depth).iter().map(|&value| machine.sort_of(value)).collect();
+    assert!(have.len() <= 16);
+    let locals = machine.frame_locals(depth);
+    for (local, &sort) in locals.iter().zip(program.locals(inside)) {
+        assert!(local.is_none_or(|value| machine.sort_of(value) == sort));
+    }
+    if let Instr::MvLoc(local) | Instr::CpLoc(local) | Instr::BorrowLoc(local) = instr {
+        assert!(locals[usize::from(local)].is_some(), "an empty local is used");
+    }
+    if let Instr::StLoc(local) = instr {
+        let overwritten = locals[usize::from(local)].is_some_and(|value| machine.sort_of(value).is_record());
+        assert!(!overwritten, "a record is overwritten");
+    }
+    if instr == Instr::Ret {
+        let left = |local: &Option<Value>| local.is_some_and(|value| machine.sort_of(value).is_record());
+        assert!(!locals.iter().any(left), "a record is dropped");
+        assert_eq!(have, program.results(inside));
+    }
+    let wanted = wanted(program, inside, instr);
+    let takes = wanted.len();
+    assert!(have.len() >= takes, "{instr:?} misses operands");
+    for (have, wanted) in have[have.len() - takes..].iter().zip(wanted) {
+        let fits = wanted.map_or(!have.is_record(), |wanted| *have == wanted);
+        assert!(fits, "{instr:?} gets {have:?}");
+    }
+}
+
+/// The sorts that an instruction takes, the topmost last; Pop takes anything but a record.
+fn wanted(program: &Program, inside: &Procedure, instr: Instr) -> Vec<Option<Sort>> {
+    let number = Some(Sort::Number);
+    match instr {
+        Instr::Pop => vec![None],
+        Instr::StLoc(local) => vec![Some(program.locals(inside)[usize::from(local)])],
+        Instr::ReadRef => vec![Some(Sort::NumberRef)],
+        Instr::WriteRef => vec![number, Some(Sort::NumberRef)],
+        Instr::BorrowFld { of, .. } => vec![Some(Sort::RecordRef(of))],
+        Instr::Pack(of) => program.fields(of).iter().map(|field| Some(field.sort)).collect(),
+        Instr::Unpack(of) => vec![Some(Sort::Record(of))],
+        Instr::MoveTo(of) => vec![Some(Sort::Record(of)), number],
+        Instr::MoveFrom(_) | Instr::BorrowGlobal(_) | Instr::Exists(_) | Instr::BranchCond(_) => vec![number],
+        Instr::Call(callee) => program.params(program.procedure(callee)).iter().copied().map(Some).collect(),
+        Instr::Ret => program.results(inside).iter().copied().map(Some).collect(),
+        Instr::Op(_) => vec![number, number],
+        _ => vec![],
+    }
+}
+
+fn watch_run(table: &[u8], list: &[u8], guard: &mut Guard, ends: &mut BTreeMap<u32, u64>) {
+    let Ok(program) = reference::admit(table) else { return };
+    let Ok(calls) = reference::check_list(&program, list) else { return };
+    let mut machine = Machine::new(&program);
+    for call in calls {
+        // Long loops show nothing new.
+        let budget = call.budget.min(3_000);
+        let before = machine.clone();
+        let (outcome, done) = machine.call_watched(call.procedure, &call.arguments, budget, guard);
+        assert!(done <= budget);
+        match outcome {
+            Outcome::Done(_) => *ends.entry(0).or_default() += 1,
+            Outcome::Stopped { stop, .. } => {
+                *ends.entry(stop as u32).or_default() += 1;
+                assert_eq!(store_text(&machine), store_text(&before));
+                assert_eq!(machine.live_records(), before.live_records());
+            }
+        }
+        assert_eq!(machine.frame_count(), 0);
+        assert_eq!(machine.live_records(), records_in_store(&machine));
+    }
+}
+
+fn store_text(machine: &Machine) -> Vec<u8> {
+    let mut text = Vec::new();
+    reference::text::write_store(&mut text, machine);
+    text
+}
+
+/// Entries and the records nested in them: each is one `store` word or one bracket.
+fn records_in_store(machine: &Machine) -> usize {
+    let text = store_text(machine);
+    text.iter().filter(|&&byte| byte == b'\n' || byte == b'(').count()
+}
+
+#[test]
+fn accepted_tables_run_safely() {
+    let mut guard = Guard::default();
+    let mut ends = BTreeMap::new();
+    for number in 0..1_500 {
+        let case = runs::case(14, number);
+        watch_run(&case.table, &case.list, &mut guard, &mut ends);
+    }
+    for number in 0..500 {
+        let (table, list) = runs::tangled_run(&mut Rng::stream(15, 0, number));
+        watch_run(&table, &list, &mut guard, &mut ends);
+        let (table, list) = runs::random_run(&mut Rng::stream(16, 0, number));
+        watch_run(&table, &list, &mut guard, &mut ends);
+    }
+    assert!(guard.looked > 100_000, "{} states looked at", guard.looked);
+    assert!(guard.guarded_seen > 1_000, "{} guarded references seen", guard.guarded_seen);
+    for end in [0, 31, 32, 33, 34, 35, 36, 37, 38] {
+        assert!(ends.contains_key(&end), "no call ends with {end}");
+    }
+}
+
+#[test]
+fn texts_fit_their_buffer_and_are_deterministic() {
+    for number in 0..600 {
+        let case = runs::case(17, number);
+        let answer = reference::run(&case.table, &case.list, case.text_len);
+        assert_eq!(answer, reference::run(&case.table, &case.list, case.text_len));
+        if let Ok(text) = answer {
+            assert!(text.len() <= 65_536);
+            let (calls, store) = reference::split_text(&text);
+            assert_eq!(calls.concat().len() + store.concat().len(), text.len());
+            assert!(store.windows(2).all(|pair| pair[0] != pair[1]));
+        }
+    }
+}
+
+/// Whether the budget that `needed` tells is the least one that ends the call the same way.
+#[test]
+fn budgets_at_and_below_what_is_needed() {
+    for number in 0..200 {
+        let (table, list) = runs::random_run(&mut Rng::stream(18, 0, number));
+        let program = reference::admit(&table).expect("accepted");
+        let machine = Machine::new(&program);
+        for call in reference::check_list(&program, &list).expect("a good list") {
+            let run = |budget| machine.clone().call(call.procedure, &call.arguments, budget);
+            let (outcome, done) = run(65_535);
+            if matches!(outcome, Outcome::Done(_)) {
+                assert_eq!(run(done), (outcome, done));
+                let (short, steps) = run(done - 1);
+                assert!(matches!(short, Outcome::Stopped { stop, .. } if stop as u32 == 31));
+                assert_eq!(steps, done - 1);
+            }
+        }
+    }
+}
+
+#[test]
+fn each_refusal_and_stop_comes_often() {
+    let mut verdicts: BTreeMap<u32, usize> = BTreeMap::new();
+    let mut bytes = 0;
+    for number in 0..2_000 {
+        let table = tables::table(1, number);
+        bytes += 4 + table.len();
+        *verdicts.entry(reference::judge(&table).err().map_or(0, |refusal| refusal.0)).or_default() += 1;
+    }
+    assert!((500..=900).contains(&verdicts[&0]), "{verdicts:?}");
+    assert!((1..=14).all(|number| verdicts[&number] >= 30), "{verdicts:?}");
+    assert!(bytes < 4_000_000, "{bytes} bytes");
+}
+
+#[test]
+fn wild_tables_are_well_typed() {
+    for number in 0..600 {
+        for flavour in [wild::Flavour::Locals, wild::Flavour::Records, wild::Flavour::Leaks] {
+            let mut rng = Rng::stream(19, 0, number);
+            let table = wild::plan(&mut rng, flavour).bytes();
+            let refusal = reference::judge(&table).err().map_or(11, |refusal| refusal.0);
+            assert!((11..=14).contains(&refusal));
+        }
+    }
+}
+
+#[test]
+fn large_tables_are_accepted_too() {
+    for number in 0..60 {
+        let mut rng = Rng::stream(20, 0, number);
+        let plan = structured::plan(&mut rng, structured::LARGE);
+        assert!(reference::judge(&plan.bytes()).is_ok(), "table {number}");
+    }
+}
