@@ -1,10 +1,10 @@
 -- One table of examples: the bytes of a table and what judging them answers.
 use Prim.Native.Nat.{ℕ, _-_}
 use mathlib.Core.List.{List, [], _∷_, _++_, map}
-use lib.ListN.{take}
+use lib.ListN.{take, drop}
 use Rattle.table.specs.declared.Verdict.{Verdict}
 use Rattle.table.specs.declared.Verdict.the-variants.{Accepted, Refused}
-use Rattle.examples.specs.Tables.{row, table, trusted, guest, type, number, guarded, public, private, parameter, local, code, loadConst, rowsS, rowsT, with-row, without-row, times}
+use Rattle.examples.specs.Tables.{row, table, trusted, guest, type, number, guarded, public, private, parameter, local, code, loadConst, rowsS, rowsT, rowsRound, with-row, without-row, times}
 
 pub record Example : Type 0 where
   pub bytes : List ℕ
@@ -58,6 +58,19 @@ examples =
     ∷ gives (table (trusted ∷ type ∷ guest ∷ public ∷ code 9 0 ∷ code 17 1 ∷ [])) (Refused 9 4)
     -- a faulty row that no walk reaches
     ∷ gives (table (guest ∷ public ∷ code 17 2 ∷ code 0 0 ∷ code 16 0 ∷ [])) (Refused 7 3)
+    -- T hands out a marked reference; T with its field unguarded
+    ∷ gives (table rowsT) (Refused 14 15)
+    ∷ gives (table (with-row 2 number rowsT)) (Accepted 16)
+    -- S with MvLoc 0 and Pop put in after row 7
+    ∷ gives (table (take 8 rowsS ++ (code 2 0 ∷ code 0 0 ∷ drop 8 rowsS))) (Refused 11 8)
+    -- a marked reference given to an own procedure
+    ∷ gives (table (take 12 rowsT ++ (code 2 0 ∷ code 8 0 ∷ code 15 2 ∷ code 16 0 ∷ private ∷ parameter 2 0 ∷ code 16 0 ∷ []))) (Refused 13 14)
+    -- a mark that travels through three locals round a loop
+    ∷ gives (table rowsRound) (Refused 13 16)
+    -- a record left in a local on one of two ways
+    ∷ gives (table (trusted ∷ type ∷ public ∷ parameter 0 0 ∷ local 1 0 ∷ code 2 0 ∷ code 18 4 ∷ code 9 0 ∷ code 4 1 ∷ code 16 0 ∷ [])) (Refused 12 9)
+    -- a walk goes on past a faulty row
+    ∷ gives (table (guest ∷ public ∷ local 0 0 ∷ code 17 4 ∷ code 3 0 ∷ code 0 0 ∷ code 16 0 ∷ code 2 0 ∷ code 0 0 ∷ code 17 1 ∷ [])) (Refused 11 4)
     ∷ []
 
 -- the answers that the examples give

@@ -1,3 +1,2 @@
 pub mod Tables
 pub mod Examples
-pub mod Passes

@@ -61,6 +61,13 @@ rowsS = trusted ∷ type ∷ guarded ∷ public ∷ parameter 0 0 ∷ loadConst 
 unfoldable pub rowsT : List (List ℕ)
 rowsT = rowsS ++ (public ∷ parameter 3 0 ∷ result 2 0 ∷ code 2 0 ∷ code 8 0 ∷ code 16 0 ∷ [])
 
+-- a loop in which a reference to the guarded kilos moves on by one local each time round, and the last local is given to a procedure
+unfoldable pub rowsRound : List (List ℕ)
+rowsRound =
+    trusted ∷ type ∷ guarded ∷ public ∷ parameter 3 0 ∷ parameter 2 0 ∷ parameter 2 0 ∷ parameter 2 0
+    ∷ code 3 2 ∷ code 4 3 ∷ code 3 1 ∷ code 4 2 ∷ code 3 0 ∷ code 8 0 ∷ code 4 1 ∷ code 3 3 ∷ code 15 1 ∷ code 17 0
+    ∷ private ∷ parameter 2 0 ∷ code 16 0 ∷ []
+
 -- rows with row i replaced
 unfoldable pub with-row : ℕ → List ℕ → List (List ℕ) → List (List ℕ)
 with-row i r rows = take i rows ++ (r ∷ drop (suc i) rows)

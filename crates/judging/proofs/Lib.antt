@@ -1,0 +1,4 @@
+pub mod Sizes
+pub mod Laws
+pub mod Values
+pub mod Accepts

@@ -1,0 +1,137 @@
+-- Each pass that accepts leaves the judgement to the later ones; one that refuses decides it.
+use Prim.Native.Nat.{ℕ}
+use mathlib.Core.Path.{_≡_, sym, _∙_}
+use mathlib.Core.List.{[], _∷_}
+use Rattle.table.specs.declared.Verdict.the-variants.{Accepted}
+use Rattle.rows.specs.Rows.{rowsOf}
+use Rattle.names.specs.Names.{namesOf, namesWith}
+use Rattle.operands.specs.Operands.{operandsOf, operandsWith}
+use Rattle.locals.specs.Locals.{localsOf, localsWith}
+use Rattle.leaks.specs.Leaks.{leaksOf, leaksWith}
+use Rattle.judging.specs.Judging.{judgeOf, inOrder}
+use Rattle.judging.proofs.Laws.{refused-here, accepted-here, form-refused, form-accepted, by-index}
+use Rattle.judging.proofs.Sizes.{sized}
+use borrow.Author.Needs.{needs}
+use Rattle.judging.proofs.judge_table.Statement.{statement}
+use Rattle.judging.proofs.judge_table.Tie as tie
+
+-- what is left of the judgement after each pass that accepts
+rows-accept : (c : tie.After-enum-told) → (n : ℕ) × (rowsOf (c .before .before .before .before .args .table .now) ≡ Accepted n)
+rows-accept c = (_, form-accepted (c .before .before .before .before .args .table .now) (sym (c .before .before .form-pass .ensures) ∙ c .enum-told .given .1) .0)
+
+after-form : (c : tie.After-enum-told) → judgeOf (c .before .before .before .before .args .table .now) ≡ inOrder (namesOf ∷ operandsOf ∷ localsOf ∷ leaksOf ∷ []) (c .before .before .before .before .args .table .now)
+after-form c = form-accepted (c .before .before .before .before .args .table .now) (sym (c .before .before .form-pass .ensures) ∙ c .enum-told .given .1) .1
+
+after-names : (c : tie.After-enum-told2) → judgeOf (c .before .before .before .before .before .before .before .before .args .table .now) ≡ inOrder (operandsOf ∷ localsOf ∷ leaksOf ∷ []) (c .before .before .before .before .before .before .before .before .args .table .now)
+unfolding namesOf
+after-names c = after-form (c .before .before .before .before) ∙ accepted-here namesOf (operandsOf ∷ localsOf ∷ leaksOf ∷ []) (c .before .before .before .before .before .before .before .before .args .table .now) (by-index namesWith (c .before .before .before .index-of .ensures) (c .before .before .names-with .ensures) ∙ c .enum-told2 .given .1)
+
+after-operands : (c : tie.After-enum-told3) → judgeOf (c .before .before .before .before .before .before .before .before .before .before .before .args .table .now) ≡ inOrder (localsOf ∷ leaksOf ∷ []) (c .before .before .before .before .before .before .before .before .before .before .before .args .table .now)
+unfolding operandsOf
+after-operands c = after-names (c .before .before .before) ∙ accepted-here operandsOf (localsOf ∷ leaksOf ∷ []) (c .before .before .before .before .before .before .before .before .before .before .before .args .table .now) (by-index operandsWith (c .before .before .before .before .before .before .index-of .ensures) (c .before .before .operands-with .ensures) ∙ c .enum-told3 .given .1)
+
+after-locals : (c : tie.After-enum-told4) → judgeOf (c .before .before .before .before .before .before .before .before .before .before .before .before .before .before .args .table .now) ≡ inOrder (leaksOf ∷ []) (c .before .before .before .before .before .before .before .before .before .before .before .before .before .before .args .table .now)
+unfolding localsOf
+after-locals c = after-operands (c .before .before .before) ∙ accepted-here localsOf (leaksOf ∷ []) (c .before .before .before .before .before .before .before .before .before .before .before .before .before .before .args .table .now) (by-index localsWith (c .before .before .before .before .before .before .before .before .before .index-of .ensures) (c .before .before .locals-with .ensures) ∙ c .enum-told4 .given .1)
+
+after-leaks : (c : tie.After-enum-told5) → judgeOf (c .before .before .before .before .before .before .before .before .before .before .before .before .before .before .before .before .before .args .table .now) ≡ inOrder [] (c .before .before .before .before .before .before .before .before .before .before .before .before .before .before .before .before .before .args .table .now)
+unfolding leaksOf
+after-leaks c = after-locals (c .before .before .before) ∙ accepted-here leaksOf [] (c .before .before .before .before .before .before .before .before .before .before .before .before .before .before .before .before .before .args .table .now) (by-index leaksWith (c .before .before .before .before .before .before .before .before .before .before .before .before .index-of .ensures) (c .before .before .leaks-with .ensures) ∙ c .enum-told5 .given .1)
+
+form-pass-requires : tie.Need-form-pass-requires
+form-pass-requires c κs = search needs
+
+enum-known-form : tie.Need-enum-known-form
+enum-known-form c = search needs
+
+returns : tie.Need-returns
+returns c = sym (form-refused _ (sym (c .before .before .before .form-pass .ensures) ∙ c .before .form .given .1))
+
+enum-told : tie.Need-enum-told
+enum-told c = search needs
+
+index-of-requires : tie.Need-index-of-requires
+index-of-requires c κs = search needs
+
+names-with-requires : tie.Need-names-with-requires
+names-with-requires c κs = search needs
+
+enum-known-names : tie.Need-enum-known-names
+enum-known-names c = search needs
+
+returns-2 : tie.Need-returns-2
+unfolding namesOf
+returns-2 c = sym (after-form (c .before .before .before .before .before) ∙ refused-here namesOf _ _ (by-index namesWith (c .before .before .before .before .index-of .ensures) (c .before .before .before .names-with .ensures) ∙ c .before .names .given .1))
+
+enum-told-2 : tie.Need-enum-told-2
+enum-told-2 c = search needs
+
+operands-with-requires : tie.Need-operands-with-requires
+operands-with-requires c κs = search needs
+
+enum-known-operands : tie.Need-enum-known-operands
+enum-known-operands c = search needs
+
+returns-3 : tie.Need-returns-3
+unfolding operandsOf
+returns-3 c = sym (after-names (c .before .before .before .before) ∙ refused-here operandsOf _ _ (by-index operandsWith (c .before .before .before .before .before .before .before .index-of .ensures) (c .before .before .before .operands-with .ensures) ∙ c .before .operands .given .1))
+
+enum-told-3 : tie.Need-enum-told-3
+enum-told-3 c = search needs
+
+locals-with-requires : tie.Need-locals-with-requires
+locals-with-requires c κs = (c .before .before .before .before .before .before .index-of .ensures, rw (c .before .before .before .before .before .before .index-of .ensures) (sized _ _ (rows-accept (c .before .before .before .before .before .before .before) .1)))
+
+enum-known-locals : tie.Need-enum-known-locals
+enum-known-locals c = search needs
+
+returns-4 : tie.Need-returns-4
+unfolding localsOf
+returns-4 c = sym (after-operands (c .before .before .before .before) ∙ refused-here localsOf _ _ (by-index localsWith (c .before .before .before .before .before .before .before .before .before .before .index-of .ensures) (c .before .before .before .locals-with .ensures) ∙ c .before .locals .given .1))
+
+enum-told-4 : tie.Need-enum-told-4
+enum-told-4 c = search needs
+
+leaks-with-requires : tie.Need-leaks-with-requires
+leaks-with-requires c κs = (c .before .before .before .before .before .before .before .before .before .index-of .ensures, rw (c .before .before .before .before .before .before .before .before .before .index-of .ensures) (sized _ _ (rows-accept (c .before .before .before .before .before .before .before .before .before .before) .1)))
+
+enum-known-leaks : tie.Need-enum-known-leaks
+enum-known-leaks c = search needs
+
+returns-5 : tie.Need-returns-5
+unfolding leaksOf
+returns-5 c = sym (after-locals (c .before .before .before .before) ∙ refused-here leaksOf _ _ (by-index leaksWith (c .before .before .before .before .before .before .before .before .before .before .before .before .before .index-of .ensures) (c .before .before .before .leaks-with .ensures) ∙ c .before .leaks .given .1))
+
+enum-told-5 : tie.Need-enum-told-5
+enum-told-5 c = search needs
+
+returns-6 : tie.Need-returns-6
+unfolding inOrder
+returns-6 c = sym (after-leaks c)
+
+pub judge-table-spec : {M : Type 1} → statement M
+judge-table-spec =
+    tie.close
+    (tie.spec
+    form-pass-requires
+    enum-known-form
+    returns
+    enum-told
+    index-of-requires
+    names-with-requires
+    enum-known-names
+    returns-2
+    enum-told-2
+    operands-with-requires
+    enum-known-operands
+    returns-3
+    enum-told-3
+    locals-with-requires
+    enum-known-locals
+    returns-4
+    enum-told-4
+    leaks-with-requires
+    enum-known-leaks
+    returns-5
+    enum-told-5
+    returns-6)

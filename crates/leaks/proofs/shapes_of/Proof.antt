@@ -1,0 +1,106 @@
+use Prim.Native.Nat.{ℕ, _-_, _≤_}
+use mathlib.Core.Path.{_≡_, refl, sym, ap, _∙_}
+use mathlib.Core.Logic.{⊎-elim}
+use mathlib.Core.Bool.{false}
+use lib.ListN.{length, length-map, List·getD-eq-default}
+use Rattle.program.specs.Program.{typeIn, procedureIn}
+use Rattle.steps.specs.Steps.{stepAt, givenBy}
+use Rattle.leaks.specs.Leaks.{stepsOf}
+use Rattle.leaks.proofs.Lists.{Listed, listed-more, step-is}
+use borrow.Author.Needs.{needs}
+use native.Mathlib.Omega.{arith}
+use Rattle.leaks.proofs.shapes_of.Statement.{statement}
+use Rattle.leaks.proofs.shapes_of.Tie as tie
+
+abbrev Inv-loop : tie.InvT-loop
+Inv-loop table code results own index n at₀ i₀ at i =
+    (i ≤ n) × Listed (stepAt table index (givenBy (λ (l : ℕ). false) results) own) at i
+
+abbrev μ-loop : tie.MeasureT-loop
+μ-loop table code results own index n at₀ i₀ at i = n - i
+
+loop-holds : tie.Need-loop-holds Inv-loop μ-loop
+loop-holds c = (omega arith, (refl, λ j h. absurd (omega arith)))
+
+row-at-requires : tie.Need-row-at-requires Inv-loop μ-loop
+row-at-requires c κs = search needs
+
+named-number-requires : tie.Need-named-number-requires Inv-loop μ-loop
+named-number-requires c κs = search needs
+
+mul-named : tie.Need-mul-named Inv-loop μ-loop
+mul-named c = omega arith
+
+element-copy-out-named : tie.Need-element-copy-out-named Inv-loop μ-loop
+element-copy-out-named c = omega arith
+
+cast-called : tie.Need-cast-called Inv-loop μ-loop
+cast-called c = search needs
+
+mul-callee : tie.Need-mul-callee Inv-loop μ-loop
+mul-callee c = omega arith
+
+element-copy-out-callee : tie.Need-element-copy-out-callee Inv-loop μ-loop
+element-copy-out-callee c = omega arith
+
+shape-of-requires : tie.Need-shape-of-requires Inv-loop μ-loop
+shape-of-requires c κs = search needs
+
+mul-at : tie.Need-mul-at Inv-loop μ-loop
+mul-at c = omega arith
+
+array-set-from-at : tie.Need-array-set-from-at Inv-loop μ-loop
+array-set-from-at c = omega (arith, c .before .before .before .before .before .before .before .loop .inv .1 .0)
+
+add-i : tie.Need-add-i Inv-loop μ-loop
+add-i c = omega arith
+
+loop-less : tie.Need-loop-less Inv-loop μ-loop
+loop-less c = omega arith
+
+-- what the instruction names
+named-is : (c : tie.Joined1 Inv-loop μ-loop) → c .if1 .named ≡ typeIn (c .before .before .before .before .before .before .before .before .args .t5) (c .before .named-number .result)
+unfolding typeIn
+named-is c =
+    let l = c .before .before .before .before .before .before .before .before .args .t5 .«type_entries» in
+    let e : length l ≡ 64 = sym (length-map l _) ∙ c .before .before .before .before .before .before .before .before .good .1 .1 .1 .1 .0 .1 .1 .1 .1 .1 .1 .0 .1 .0 .1 in
+    ⊎-elim (λ w. w .2) (λ w. w .1 ∙ sym (List·getD-eq-default l _ (omega arith))) (c .if1 .came)
+
+callee-is : (c : tie.Joined2 Inv-loop μ-loop) → c .if2 .callee ≡ procedureIn (c .before .before .before .before .before .before .before .before .before .before .args .t5) (c .before .before .before .before .row-at .result .b)
+unfolding procedureIn
+callee-is c =
+    let l = c .before .before .before .before .before .before .before .before .before .before .args .t5 .«procedure_entries» in
+    let e : length l ≡ 128 = sym (length-map l _) ∙ c .before .before .before .before .before .before .before .before .before .before .good .1 .1 .1 .1 .0 .1 .1 .1 .1 .1 .1 .1 .0 .1 .0 .1 in
+    ⊎-elim (λ w. w .2) (λ w. w .1 ∙ sym (List·getD-eq-default l _ (omega arith))) (c .if2 .came)
+
+loop-again : tie.Need-loop-again Inv-loop μ-loop
+loop-again c = (
+  omega arith,
+  listed-more _ (c .before .before .before .before .before .before .before .loop .at) (c .before .before .before .before .before .before .before .loop .i) _ (c .before .before .before .before .before .before .before .loop .inv .1) (omega (arith, c .before .before .before .before .before .before .before .before .before .before .before .pre)) (c .shape-of .ensures ∙ step-is (c .before .before .before .before .before .before .before .before .before .before .before .args .table .now) (c .before .before .before .before .before .before .before .before .before .before .before .args .code .now) (c .before .before .before .before .before .before .before .before .before .before .before .args .t5) _ (c .before .before .before .before .before .before .before .before .before .before .before .args .own) (c .before .before .before .before .before .before .before .loop .i) (c .before .before .before .before .before .before .before .before .before .before .before .pre .0) (c .before .before .before .before .before .row-at .ensures) (named-is (c .before .before .before) ∙ ap (typeIn (c .before .before .before .before .before .before .before .before .before .before .before .args .t5)) (c .before .before .before .before .named-number .ensures)) (callee-is (c .before))),
+)
+
+returns : tie.Need-returns Inv-loop μ-loop
+unfolding stepsOf
+returns c = λ j h. c .before .loop .inv .1 .1 j (omega arith)
+
+pub shapes-of-spec : {M : Type 1} → statement M
+shapes-of-spec =
+    tie.close
+    (tie.spec
+    Inv-loop
+    μ-loop
+    loop-holds
+    row-at-requires
+    named-number-requires
+    mul-named
+    element-copy-out-named
+    cast-called
+    mul-callee
+    element-copy-out-callee
+    shape-of-requires
+    mul-at
+    array-set-from-at
+    add-i
+    loop-less
+    loop-again
+    returns)

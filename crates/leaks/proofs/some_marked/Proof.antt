@@ -1,0 +1,63 @@
+use Prim.Native.Nat.{_-_, _≤_}
+use lib.ListN.{List·getD-eq-default}
+use mathlib.Core.Logic.{⊎-elim}
+use mathlib.Core.Path.{_≡_, sym}
+use mathlib.Core.Bool.{false}
+use Rattle.leaks.specs.Leaks.{someMarked}
+use Rattle.leaks.proofs.Laws.{some-none, some-next, some-found}
+use native.Mathlib.Omega.{arith}
+use Rattle.leaks.proofs.some_marked.Statement.{statement}
+use Rattle.leaks.proofs.some_marked.Tie as tie
+
+abbrev Inv-loop : tie.InvT-loop
+Inv-loop nodes i count j₀ j = (j ≤ count) × (someMarked nodes i j ≡ false)
+
+abbrev μ-loop : tie.MeasureT-loop
+μ-loop nodes i count j₀ j = count - j
+
+loop-holds : tie.Need-loop-holds Inv-loop μ-loop
+loop-holds c = (omega arith, some-none (c .args .nodes .now) (c .args .i))
+
+mul-at : tie.Need-mul-at Inv-loop μ-loop
+mul-at c = omega arith
+
+add-at : tie.Need-add-at Inv-loop μ-loop
+add-at c = omega arith
+
+add-at-2 : tie.Need-add-at-2 Inv-loop μ-loop
+add-at-2 c = omega arith
+
+shared-slice-read-if2 : tie.Need-shared-slice-read-if2 Inv-loop μ-loop
+shared-slice-read-if2 c = omega arith
+
+returns : tie.Need-returns Inv-loop μ-loop
+returns c = sym (some-found _ _ (c .before .before .before .before .loop .j) _ (c .before .before .before .loop-test .taken) (c .if2 .taken))
+
+add-j : tie.Need-add-j Inv-loop μ-loop
+add-j c = omega arith
+
+loop-less : tie.Need-loop-less Inv-loop μ-loop
+loop-less c = omega arith
+
+loop-again : tie.Need-loop-again Inv-loop μ-loop
+loop-again c = (omega arith, some-next _ _ _ (c .before .before .loop .inv .1) (⊎-elim (λ w. w .2 .left) (λ w. List·getD-eq-default (c .before .before .before .args .nodes .now) false (w .left)) (c .if1 .came)))
+
+returns-2 : tie.Need-returns-2 Inv-loop μ-loop
+returns-2 c = let e : c .before .loop .j ≡ c .before .before .args .count = omega arith in sym (rw e at (c .before .loop .inv .1))
+
+pub some-marked-spec : {M : Type 1} → statement M
+some-marked-spec =
+    tie.close
+    (tie.spec
+    Inv-loop
+    μ-loop
+    loop-holds
+    mul-at
+    add-at
+    add-at-2
+    shared-slice-read-if2
+    returns
+    add-j
+    loop-less
+    loop-again
+    returns-2)

@@ -1,0 +1,335 @@
+// The leaks pass: refusals 13 and 14.
+ghost use mathlib.Core.Path.{_≡_};
+ghost use mathlib.Core.Bool.{Bool, true, false, cond, _&&_, _||_};
+ghost use mathlib.Core.List.{List, [], _∷_};
+ghost use Prim.Native.Nat.{ℕ, _+_, _*_, _≤_, _<_};
+ghost use lib.Dec.{eqb};
+ghost use lib.ListN.{length, getD};
+ghost use Rattle.reach.specs.Search.{after, visitAll};
+ghost use Rattle.table.specs.Rows.{rowAt, rowCount};
+ghost use Rattle.table.specs.Index.{indexOf};
+ghost use Rattle.program.specs.Program.{codeOf, codeVerdict, Sized};
+ghost use Rattle.flow.specs.Steps.{nexts};
+ghost use Rattle.flow.specs.Places.{succs, markMoves, within, placeMoves, markNodes, startPlaces};
+ghost use Rattle.spread.specs.Moves.{placesOf};
+ghost use Rattle.locals.specs.Sets.{contains};
+ghost use Rattle.locals.specs.Locals.{parameterCount};
+ghost use Rattle.steps.specs.Steps.{viewStep, stepAt, givenBy};
+ghost use Rattle.leaks.specs.Leaks.{inTrusted, someMarked, marksOf, leakFrom, leakIn, leaksWith, stepsOf};
+use locals::LocalSet;
+use spread::Moves;
+use steps::Shape;
+use table::Row;
+use table::Verdict;
+use table::format;
+use table::index::Index;
+use table::index::ProcedureEntry;
+use table::index::TypeEntry;
+
+// What a walk sees of each instruction of a procedure.
+pub struct Shapes {
+    pub at: [Shape; 256],
+}
+
+// The places of the marks that an instruction makes, after the bare instruction.
+fn fresh_moves(s: Shape) -> Moves
+    ensures { λ r. ⌜ placesOf r ≡ within (markMoves (viewStep s) 0) ⌝ }
+{
+    let mut moves = Moves::NONE.add(0);
+    let mut r = 0;
+    while r < 4 {
+        if r < s.gives as usize {
+            if s.fresh[r] {
+                let place = 17 + (s.gives as usize) - 1 - r;
+                if place < 33 {
+                    moves = moves.add(place as u16);
+                }
+            }
+        }
+        r += 1;
+    }
+    moves
+}
+
+// Where a mark in a local goes: x is 1 to 16.
+fn local_moves(s: Shape, x: usize) -> Moves
+    requires { ⌜ (0 < x) × (x < 17) ⌝ }
+    ensures { λ r. ⌜ placesOf r ≡ within (markMoves (viewStep s) x) ⌝ }
+{
+    if (s.operand as usize) + 1 != x {
+        return Moves::NONE.add(x as u16);
+    }
+    if s.opcode == format::MV_LOC {
+        return Moves::NONE.add(17);
+    }
+    if s.opcode == format::CP_LOC {
+        return Moves::NONE.add(x as u16).add(17);
+    }
+    if s.opcode == format::ST_LOC {
+        return Moves::NONE;
+    }
+    Moves::NONE.add(x as u16)
+}
+
+// Where a mark on an operand goes: x is 17 to 32.
+fn operand_moves(s: Shape, x: usize) -> Moves
+    requires { ⌜ (17 ≤ x) × (x < 33) ⌝ }
+    ensures { λ r. ⌜ placesOf r ≡ within (markMoves (viewStep s) x) ⌝ }
+{
+    let takes = s.takes as usize;
+    if x - 17 < takes {
+        if s.opcode == format::ST_LOC {
+            if s.operand < 16 {
+                return Moves::NONE.add(s.operand + 1);
+            }
+        }
+        return Moves::NONE;
+    }
+    let y = x - takes + (s.gives as usize);
+    if y < 33 {
+        return Moves::NONE.add(y as u16);
+    }
+    Moves::NONE
+}
+
+// Where a mark at place x goes.
+fn mark_moves(s: Shape, x: usize) -> Moves
+    requires { ⌜ x < 33 ⌝ }
+    ensures { λ r. ⌜ placesOf r ≡ within (markMoves (viewStep s) x) ⌝ }
+{
+    if x == 0 {
+        return fresh_moves(s);
+    }
+    if x < 17 {
+        return local_moves(s, x);
+    }
+    operand_moves(s, x)
+}
+
+// Visits what follows from node u: place u % 33 at instruction u / 33.
+fn expand(
+    visited: &mut [bool],
+    queue: &mut [u16],
+    code: &[u8],
+    tail: usize,
+    shape: Shape,
+    u: usize,
+) -> usize
+    requires { ⌜ (rowCount (now code) ≤ 256) × (u < 8448) ⌝ }
+    ensures { λ r. ⌜ after (now (visited .exit)) (now (queue .exit)) r ≡ visitAll (after (now (visited .entry)) (now (queue .entry)) tail) (succs 33 (nexts (now (code .entry))) (λ (i x : ℕ). within (markMoves (viewStep shape) x)) u) ⌝ }
+{
+    let n = code.len() / format::ROW_BYTES;
+    let i = u / 33;
+    let row = table::row_at(code, i);
+    let moves = mark_moves(shape, u % 33);
+    spread::go_on(visited, queue, tail, 33, n, row, i, moves)
+}
+
+// Visits the places where walks start: the parameters that are given as marked, the highest first, and the bare first instruction.
+fn visit_start(
+    visited: &mut [bool],
+    queue: &mut [u16],
+    params: usize,
+    parameters: LocalSet,
+) -> usize
+    requires { ⌜ params ≤ 16 ⌝ }
+    ensures { λ r. ⌜ after (now (visited .exit)) (now (queue .exit)) r ≡ visitAll (after (now (visited .entry)) (now (queue .entry)) 0) (startPlaces (contains parameters) params) ⌝ }
+{
+    let mut tail = 0;
+    let mut l = params;
+    while 0 < l {
+        l -= 1;
+        if parameters.contains(l) {
+            tail = reach::visit(visited, queue, tail, l + 1);
+        }
+    }
+    reach::visit(visited, queue, tail, 0)
+}
+
+// Where marks come to: breadth first, each node once.
+fn spread_marks(
+    visited: &mut [bool],
+    queue: &mut [u16],
+    code: &[u8],
+    shapes: Shapes,
+    params: usize,
+    parameters: LocalSet,
+)
+    requires { ⌜ (length (now visited) ≡ 33 * rowCount (now code)) × (8448 ≤ length (now queue)) × (0 < rowCount (now code)) × (rowCount (now code) ≤ 256) × (params ≤ 16) ⌝ }
+    ensures { λ _. ⌜ now (visited .exit) ≡ markNodes (nexts (now (code .entry))) (stepsOf shapes) (contains parameters) params (rowCount (now (code .entry))) ⌝ }
+{
+    reach::clear(visited);
+    let mut tail = visit_start(visited, queue, params, parameters);
+    let mut head = 0;
+    while head < tail {
+        let u = queue[head] as usize;
+        let i = u / 33;
+        let shape = shapes.at[i];
+        tail = expand(visited, queue, code, tail, shape, u);
+        head += 1;
+    }
+}
+
+// What a walk sees of each instruction of procedure `own`, whose code is the part `code`.
+fn shapes_of(
+    table: &[u8],
+    code: &[u8],
+    results: &[bool],
+    own: ProcedureEntry,
+    index: Index,
+) -> Shapes
+    requires { ⌜ (now code ≡ codeOf (now table) own) × (rowCount (now code) ≤ 256) ⌝ }
+    ensures { λ r. ⌜ ((i : ℕ) → i < rowCount (now (code .entry)) → stepsOf r i ≡ stepAt (now (table .entry)) index (givenBy (λ (l : ℕ). false) (now (results .entry))) own i) ⌝ }
+{
+    let n = code.len() / format::ROW_BYTES;
+    let mut at = [Shape::NONE; 256];
+    let mut i = 0;
+    while i < n {
+        let row = table::row_at(code, i);
+        let mut named = TypeEntry::NONE;
+        let y = operands::named_number(row.a, row.b);
+        if y < format::MAX_TYPES {
+            named = index.type_entries[y];
+        }
+        let mut callee = ProcedureEntry::NONE;
+        let called = row.b as usize;
+        if called < format::MAX_PROCEDURES {
+            callee = index.procedure_entries[called];
+        }
+        at[i] = steps::shape_of(table, results, row, own, named, callee);
+        i += 1;
+    }
+    Shapes { at }
+}
+
+// Whether some one of the first `count` operands is marked on arriving at instruction i.
+fn some_marked(nodes: &[bool], i: usize, count: usize) -> bool
+    requires { ⌜ (i < 256) × (count < 65536) ⌝ }
+    ensures { λ r. ⌜ r ≡ someMarked (now (nodes .entry)) i count ⌝ }
+{
+    let mut j = 0;
+    while j < count {
+        let at = 33 * i + (j + 17);
+        if at < nodes.len() {
+            if nodes[at] {
+                return true;
+            }
+        }
+        j += 1;
+    }
+    false
+}
+
+// The number that an instruction earns, or 0.
+fn fault_at(nodes: &[bool], shape: Shape, i: usize) -> u8
+    requires { ⌜ i < 256 ⌝ }
+    ensures { λ r. ⌜ r ≡ cond (eqb (shape .opcode) 15 && someMarked (now (nodes .entry)) i (shape .takes)) 13 (cond (eqb (shape .opcode) 16 && someMarked (now (nodes .entry)) i (shape .takes)) 14 0) ⌝ }
+{
+    if shape.opcode == format::CALL {
+        if some_marked(nodes, i, shape.takes as usize) {
+            return 13;
+        }
+        return 0;
+    }
+    if shape.opcode == format::RET {
+        if some_marked(nodes, i, shape.takes as usize) {
+            return 14;
+        }
+    }
+    0
+}
+
+// The instructions of a procedure, n of them.
+fn judge_code(nodes: &[bool], shapes: Shapes, own: ProcedureEntry, n: usize) -> Verdict
+    requires { ⌜ n ≤ 256 ⌝ }
+    ensures { λ r. ⌜ r ≡ codeVerdict (λ (i : ℕ). leakIn (now (nodes .entry)) (stepsOf shapes i) i) (own .code) n ⌝ }
+{
+    let mut i = 0;
+    while i < n {
+        let shape = shapes.at[i];
+        let fault = fault_at(nodes, shape, i);
+        if fault != 0 {
+            return Verdict::Refused(fault, (own.code as usize) + i);
+        }
+        i += 1;
+    }
+    Verdict::Accepted(n)
+}
+
+// One procedure of a trusted module; `nodes` and `queue` are room to work in, `parameters` and `results` have the marks that are given.
+fn judge_procedure(
+    table: &[u8],
+    code: &[u8],
+    results: &[bool],
+    nodes: &mut [bool],
+    queue: &mut [u16],
+    own: ProcedureEntry,
+    index: Index,
+) -> Verdict
+    requires { ⌜ (now code ≡ codeOf (now table) own) × (rowCount (now code) ≤ 256) × (parameterCount (now table) own ≤ 16) × (8448 ≤ length (now nodes)) × (8448 ≤ length (now queue)) ⌝ }
+    ensures { λ r. ⌜ r ≡ codeVerdict (leakFrom (now (table .entry)) index (givenBy (λ (l : ℕ). false) (now (results .entry))) own (marksOf (now (table .entry)) index (givenBy (λ (l : ℕ). false) (now (results .entry))) own)) (own .code) (rowCount (now (code .entry))) ⌝ }
+{
+    let n = code.len() / format::ROW_BYTES;
+    if n == 0 {
+        return Verdict::Accepted(0);
+    }
+    let params = steps::parameters_of(table, own) as usize;
+    let shapes = shapes_of(table, code, results, own, index);
+    let end = 33 * n;
+    spread_marks(
+        &mut nodes[..end],
+        queue,
+        code,
+        shapes,
+        params,
+        LocalSet::EMPTY,
+    );
+    judge_code(&nodes[..end], shapes, own, n)
+}
+
+// Whether a module, whose row is `row`, is trusted.
+fn is_trusted(table: &[u8], row: u16) -> bool
+    ensures { λ r. ⌜ r ≡ eqb (rowAt (now (table .entry)) row .a) 1 ⌝ }
+{
+    table::row_at(table, row as usize).a == 1
+}
+
+// The leaks pass over a table with its index, where each procedure has at most 16 locals and 256 instructions.
+pub fn leaks_with(table: &[u8], index: Index) -> Verdict
+    requires { ⌜ (index ≡ indexOf (now table)) × Sized (now table) index ⌝ }
+    ensures { λ r. ⌜ r ≡ leaksWith index (now (table .entry)) ⌝ }
+{
+    let rows = table.len() / format::ROW_BYTES;
+    let results = [false; 512];
+    let mut nodes = [false; 8448];
+    let mut queue = [0u16; 8448];
+    let mut p = 0;
+    while p < format::MAX_PROCEDURES {
+        if index.procedures <= p {
+            return Verdict::Accepted(rows);
+        }
+        let own = index.procedure_entries[p];
+        let owner = own.owner as usize;
+        let mut module_row = 0;
+        if owner < format::MAX_MODULES {
+            module_row = index.module_rows[owner];
+        }
+        if is_trusted(table, module_row) {
+            let code = table::procedures::part(table, own.code as usize, own.end as usize);
+            let verdict = judge_procedure(
+                table,
+                code,
+                &results,
+                &mut nodes,
+                &mut queue,
+                own,
+                index,
+            );
+            if let Verdict::Refused(number, row) = verdict {
+                return Verdict::Refused(number, row);
+            }
+        }
+        p += 1;
+    }
+    Verdict::Accepted(rows)
+}

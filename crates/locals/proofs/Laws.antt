@@ -1,0 +1,197 @@
+-- Laws of the search for what walks leave in a local, and of the faults that follow from it.
+use Prim.Native.Nat.{ℕ, zero, suc, _+_, _-_, _*_, _/_, _%_, _<_, _≤_}
+use mathlib.Core.Path.{_≡_, refl, sym, ap, _∙_}
+use mathlib.Core.Bool.{Bool, true, false, cond, not, _&&_, _||_, and-false, and-comm, false≢true, Bool·not-not}
+use mathlib.Core.List.{List, [], _∷_, List·Memᴰ·eq-of-singleton}
+use native.Mathlib.Nat.{mul-le-mul}
+use native.Mathlib.Omega.{arith}
+use borrow.Author.Tests.{le-ltb, ltb-true, eqb-true}
+use lib.Dec.{eqb, ltb}
+use lib.ListN.{length, getD, take, drop, replicate, length-replicate}
+use Rattle.laws.specs.First.{firstFault}
+use Rattle.reach.specs.Reach.{Mem, Inside, mark}
+use Rattle.reach.specs.Search.{Searched, Visit, after, visitOf, visitAll}
+use Rattle.reach.proofs.Laws.{length-mark}
+use Rattle.reach.proofs.Search.{search-one, expand, finish, tail-le, queued-below}
+use Rattle.table.specs.declared.Row.{Row}
+use Rattle.table.specs.declared.Verdict.{Verdict}
+use Rattle.table.specs.declared.Verdict.the-variants.{Accepted, Refused}
+use Rattle.table.specs.declared.index.ProcedureEntry.{ProcedureEntry}
+use Rattle.table.specs.Format.{opMvLoc, opCpLoc, opStLoc, opBorrowLoc, opRet}
+use Rattle.table.specs.Rows.{rowCount, rowAt}
+use Rattle.program.specs.Program.{codeOf, codeVerdict, localCount, localKind, isRecord}
+use Rattle.flow.specs.Steps.{below, nextOf, nexts}
+use Rattle.flow.specs.Places.{nodesOf as nodesFrom, succs, localMoves, statusAfter, startStatus, localNodes, reached, canBeEmpty, canBeFull}
+use Rattle.spread.proofs.Laws.{graph-inside, next-below}
+use Rattle.locals.specs.declared.LocalSet.{LocalSet}
+use Rattle.locals.specs.Sets.{contains, meetsBelow, meets, those}
+use Rattle.locals.specs.Locals.{bareStep, parameterCount, needsFull, nodesOf, leavesEmpty, leavesFull, leavesRecord, leavesSome, localFault, faultFrom}
+use Rattle.locals.proofs.Sets.{contains-those, meets-past}
+use Rattle.locals.proofs.Parts.{part-at}
+
+-- The search from the status that local l starts with.
+
+start-below : (params l : ℕ) → startStatus params l < 2
+unfolding startStatus
+start-below params l = go (ltb l params)
+  where
+    go : (b : Bool) → cond b 0 1 < 2
+    go true = omega arith
+    go false = omega arith
+
+-- the status after an instruction is one of the two
+pub after-below : (row : Row) (l x : ℕ) → x < 2 → cond (eqb (row .b) l) (cond (eqb (row .a) opMvLoc) 1 (cond (eqb (row .a) opStLoc) 0 x)) x < 2
+after-below row l x h = go (eqb (row .b) l) (eqb (row .a) opMvLoc) (eqb (row .a) opStLoc)
+  where
+    go : (a b c : Bool) → cond a (cond b 1 (cond c 0 x)) x < 2
+    go true true c = omega arith
+    go true false true = omega arith
+    go true false false = h
+    go false b c = h
+
+-- the nodes that go on from a node, with what the code reads and computes of it
+pub nodes-after :
+    (code : List ℕ) (l u : ℕ) {row : Row} {y : ℕ} {ys : List ℕ}
+    → row ≡ rowAt code (u / 2)
+    → y ≡ cond (eqb (row .b) l) (cond (eqb (row .a) opMvLoc) 1 (cond (eqb (row .a) opStLoc) 0 (u % 2))) (u % 2)
+    → ys ≡ y ∷ []
+    → nodesFrom 2 (below (rowCount code) (nextOf row (u / 2))) ys ≡ succs 2 (nexts code) (localMoves (bareStep code) l) u
+unfolding succs nexts localMoves statusAfter
+nodes-after code l u e h q = rw (q, h, e)
+
+module _ (code : List ℕ) (params l : ℕ) where
+  -- the graph of its nodes, and the set of the first one
+  abbrev graph : ℕ → List ℕ
+  graph = succs 2 (nexts code) (localMoves (bareStep code) l)
+
+  abbrev first : List Bool
+  first = mark (replicate (2 * rowCount code) false) (startStatus params l ∷ [])
+
+  -- where a search stands
+  abbrev pub Spreading : List Bool → List ℕ → ℕ → ℕ → Type 0
+  Spreading seen queue head tail = Searched graph first seen queue head tail
+
+  status-below : (i x y : ℕ) → x < 2 → Mem y (localMoves (bareStep code) l i x) → y < 2
+  unfolding localMoves statusAfter
+  status-below i x y h m = rw (List·Memᴰ·eq-of-singleton m) (after-below (rowAt code i) l x h)
+
+  length-first : length first ≡ 2 * rowCount code
+  length-first = length-mark (startStatus params l ∷ []) (replicate (2 * rowCount code) false) ∙ length-replicate (2 * rowCount code) false
+
+  inside : Inside graph (length first)
+  inside = rw length-first (graph-inside 2 (nexts code) (localMoves (bareStep code) l) (rowCount code) (omega arith) status-below (next-below code))
+
+  pub local-start :
+      (queue : List ℕ) (seen : List Bool) {x : Visit}
+      → 0 < rowCount code
+      → rowCount code ≤ 256
+      → 512 ≤ length queue
+      → seen ≡ replicate (2 * rowCount code) false
+      → x ≡ visitOf seen queue 0 (startStatus params l)
+      → Spreading (x .visited) (x .queue) 0 (x .tail)
+  unfolding mark
+  local-start queue seen some few room e h =
+      search-one graph (2 * rowCount code) queue (startStatus params l) (omega arith) (omega arith) (omega (arith, start-below params l)) (rw e at h)
+
+  module _ {seen : List Bool} {queue : List ℕ} {head tail : ℕ} (state : Spreading seen queue head tail) where
+    pub local-tail : tail ≤ 2 * rowCount code
+    local-tail = omega (arith, length-first, tail-le (state .visits))
+
+    pub local-queued : head < tail → getD queue head 0 < 2 * rowCount code
+    local-queued h = omega (arith, length-first, queued-below (state .visits) head h)
+
+    pub local-next : {x : Visit} → rowCount code ≤ 256 → head < tail → x ≡ visitAll (after seen queue tail) (graph (getD queue head 0)) → Spreading (x .visited) (x .queue) (head + 1) (x .tail)
+    local-next few h = expand state inside (omega (arith, length-first)) h
+
+    pub local-found : tail ≤ head → seen ≡ nodesOf code params l
+    unfolding nodesOf localNodes reached
+    local-found h = rw length-first at (finish state (omega (arith, state .ahead)))
+
+-- the nodes of l locals
+pub nodes-fit : (n l : ℕ) → n ≤ 256 → l ≤ 16 → 2 * n * l ≤ 8192
+nodes-fit n l h k = let d : 2 * n ≤ 512 = omega arith in mul-le-mul d k
+
+-- an opcode that needs its local full is neither StLoc nor Ret
+pub full-only : (op : ℕ) → needsFull op ≡ true → (eqb op opStLoc ≡ false) × (eqb op opRet ≡ false)
+unfolding needsFull
+full-only op h = go (eqb op opMvLoc) (eqb op opCpLoc) (eqb op opBorrowLoc) refl refl refl h
+  where
+    go : (a b c : Bool) → eqb op opMvLoc ≡ a → eqb op opCpLoc ≡ b → eqb op opBorrowLoc ≡ c → (a || b || c) ≡ true → (eqb op opStLoc ≡ false) × (eqb op opRet ≡ false)
+    go true b c p q r e = rw (eqb-true op opMvLoc p) (refl, refl)
+    go false true c p q r e = rw (eqb-true op opCpLoc q) (refl, refl)
+    go false false true p q r e = rw (eqb-true op opBorrowLoc r) (refl, refl)
+    go false false false p q r e = absurd (false≢true e)
+
+-- The faults of procedure p, from the nodes of its locals one after the other.
+module _ (t : List ℕ) (p : ProcedureEntry) (nodes : List Bool) (few : localCount p ≤ 16)
+    (parts : (l : ℕ) → l < localCount p → take (2 * rowCount (codeOf t p)) (drop (2 * rowCount (codeOf t p) * l) nodes) ≡ nodesOf (codeOf t p) (parameterCount t p) l)
+    (i : ℕ) (there : i < rowCount (codeOf t p)) where
+  node-at : (l k : ℕ) → l < localCount p → k < 2 * rowCount (codeOf t p) → getD nodes (2 * rowCount (codeOf t p) * l + k) false ≡ getD (nodesOf (codeOf t p) (parameterCount t p) l) k false
+  node-at l k h e = part-at _ _ nodes _ k false e (parts l h)
+
+  -- what the sets say of local l: full on some walk, full on every walk, a record
+  abbrev sometimes : ℕ → Bool
+  sometimes l = getD nodes (2 * rowCount (codeOf t p) * l + 2 * i) false
+
+  abbrev always : ℕ → Bool
+  always l = not (getD nodes (2 * rowCount (codeOf t p) * l + (2 * i + 1)) false)
+
+  abbrev isKept : ℕ → Bool
+  isKept l = isRecord (localKind t p l)
+
+  empty-same : (l : ℕ) → (ltb l (localCount p) && not (contains (those always (localCount p)) l)) ≡ leavesEmpty t p l i
+  unfolding leavesEmpty
+  empty-same l = rw (contains-those always (localCount p) l few) (go (ltb l (localCount p)) refl)
+    where
+      go : (b : Bool) → ltb l (localCount p) ≡ b → (b && not (b && always l)) ≡ (b && canBeEmpty (nodesOf (codeOf t p) (parameterCount t p) l) i)
+      go true e = Bool·not-not _ ∙ node-at l (2 * i + 1) (ltb-true l (localCount p) e) (omega arith)
+      go false e = refl
+
+  record-same : (l : ℕ) → (contains (those isKept (localCount p)) l && contains (those sometimes (localCount p)) l) ≡ leavesRecord t p l i
+  unfolding leavesRecord leavesFull
+  record-same l = rw (contains-those isKept (localCount p) l few, contains-those sometimes (localCount p) l few) (go (ltb l (localCount p)) refl)
+    where
+      go : (b : Bool) → ltb l (localCount p) ≡ b → (b && isKept l && (b && sometimes l)) ≡ (isKept l && (b && canBeFull (nodesOf (codeOf t p) (parameterCount t p) l) i))
+      go true e = ap (λ (x : Bool). isKept l && x) (node-at l (2 * i) (ltb-true l (localCount p) e) (omega arith))
+      go false e = sym (and-false (isKept l))
+
+  some-below : (n : ℕ) → meetsBelow (those sometimes (localCount p)) (those isKept (localCount p)) n ≡ leavesSome t p n i
+  unfolding meetsBelow leavesSome
+  some-below zero = refl
+  some-below (suc n) = rw (some-below n, and-comm (contains (those sometimes (localCount p)) n) (contains (those isKept (localCount p)) n), record-same n)
+
+  some-same : meets (those sometimes (localCount p)) (those isKept (localCount p)) ≡ leavesSome t p (localCount p) i
+  unfolding meets
+  some-same =
+      let e : localCount p + (16 - localCount p) ≡ 16 = omega arith in
+      rw e at (meets-past (those sometimes (localCount p)) (those isKept (localCount p)) (localCount p) (16 - localCount p)
+      (λ l h. rw (contains-those sometimes (localCount p) l few, le-ltb l (localCount p) h)))
+      ∙ some-below (localCount p)
+
+  fault-same : faultFrom nodes (rowAt (codeOf t p) i) (rowCount (codeOf t p)) (localCount p) (those isKept (localCount p)) i ≡ localFault t p i
+  unfolding faultFrom localFault
+  fault-same = rw (empty-same, record-same, some-same)
+
+-- passes with the same faults
+pass-same : {A : Type 0} (clean : ℕ → A) (bad : ℕ → ℕ → A) (f g : ℕ → ℕ) (i left : ℕ) → ((j : ℕ) → i ≤ j → j < i + left → f j ≡ g j) → firstFault clean bad f i left ≡ firstFault clean bad g i left
+unfolding firstFault
+pass-same clean bad f g i zero h = refl
+pass-same clean bad f g i (suc left) h = rw (h i (omega arith) (omega arith), pass-same clean bad f g (i + 1) left (λ j lo hi. h j (omega arith) (omega arith)))
+
+pub verdict-same : (f g : ℕ → ℕ) (start n : ℕ) → ((i : ℕ) → i < n → f i ≡ g i) → codeVerdict f start n ≡ codeVerdict g start n
+unfolding codeVerdict
+verdict-same f g start n h = pass-same Accepted (λ (number i : ℕ). Refused number (start + i)) f g 0 n (λ j lo hi. h j (omega arith))
+
+-- the verdict on the code of procedure p
+pub procedure-verdict :
+    (t c : List ℕ) (p : ProcedureEntry) (nodes : List Bool) (count params : ℕ) (records : LocalSet) (v : Verdict)
+    → c ≡ codeOf t p
+    → count ≡ localCount p
+    → params ≡ parameterCount t p
+    → records ≡ those (λ (l : ℕ). isRecord (localKind t p l)) count
+    → localCount p ≤ 16
+    → ((l : ℕ) → l < count → take (2 * rowCount c) (drop (2 * rowCount c * l) nodes) ≡ nodesOf c params l)
+    → v ≡ codeVerdict (λ (i : ℕ). faultFrom nodes (rowAt c i) (rowCount c) count records i) (p .code) (rowCount c)
+    → v ≡ codeVerdict (localFault t p) (p .code) (rowCount c)
+procedure-verdict t c p nodes count params records v e n q r few parts h =
+    rw e ((rw (r, n, e) at h) ∙ verdict-same _ (localFault t p) (p .code) (rowCount (codeOf t p)) (fault-same t p nodes few (rw (n, q, e) at parts)))

@@ -1,0 +1,54 @@
+-- The invariant: the set has those of the locals below l that belong to it.
+use Rattle.locals.specs.Sets.{those}
+use Rattle.locals.proofs.Sets.{those-none, those-more}
+use lib.ListN.{getD}
+use mathlib.Core.Logic.{⊎-elim, inl, inr}
+use mathlib.Core.Bool.{false}
+use Prim.Native.Nat.{ℕ, _+_, _*_, _≤_, _-_}
+use mathlib.Core.Path.{_≡_, ap, _∙_}
+use borrow.Author.Needs.{needs}
+use native.Mathlib.Omega.{arith}
+use Rattle.locals.proofs.sometimes_full.Statement.{statement}
+use Rattle.locals.proofs.sometimes_full.Tie as tie
+
+abbrev Inv-loop : tie.InvT-loop
+Inv-loop nodes n count i set₀ l₀ set l = (l ≤ count) × (set ≡ those (λ (l : ℕ). getD nodes (2 * n * l + 2 * i) false) l)
+
+abbrev μ-loop : tie.MeasureT-loop
+μ-loop nodes n count i set₀ l₀ set l = count - l
+
+loop-holds : tie.Need-loop-holds Inv-loop μ-loop
+loop-holds c = (omega arith, those-none _)
+
+can-be-full-requires : tie.Need-can-be-full-requires Inv-loop μ-loop
+can-be-full-requires c κs = search needs
+
+insert-requires : tie.Need-insert-requires Inv-loop μ-loop
+insert-requires c κs = search needs
+
+add-l : tie.Need-add-l Inv-loop μ-loop
+add-l c = omega arith
+
+loop-less : tie.Need-loop-less Inv-loop μ-loop
+loop-less c = omega arith
+
+loop-again : tie.Need-loop-again Inv-loop μ-loop
+loop-again c =
+    (omega arith, those-more _ _ (c .before .before .before .loop .inv .1) (c .before .can-be-full .ensures) (⊎-elim (λ w. inl (w .0 .taken, w .2 ∙ w .1 .ensures)) (λ w. inr (w .0 .left, w .1)) (c .if1 .came)))
+
+returns : tie.Need-returns Inv-loop μ-loop
+returns c = let e : c .before .loop .l ≡ c .before .before .before .args .count = omega arith in c .before .loop .inv .1 ∙ ap (those _) e
+
+pub sometimes-full-spec : {M : Type 1} → statement M
+sometimes-full-spec =
+    tie.close
+    (tie.spec
+    Inv-loop
+    μ-loop
+    loop-holds
+    can-be-full-requires
+    insert-requires
+    add-l
+    loop-less
+    loop-again
+    returns)

@@ -1,0 +1,348 @@
+// The locals pass: refusals 11 and 12.
+ghost use mathlib.Core.Path.{_≡_};
+ghost use mathlib.Core.Bool.{false, cond, not};
+ghost use Prim.Native.Nat.{ℕ, _+_, _*_, _≤_, _<_};
+ghost use lib.Dec.{eqb};
+ghost use lib.ListN.{length, getD, take, drop};
+ghost use Rattle.reach.specs.Search.{after, visitAll};
+ghost use Rattle.table.specs.Rows.{rowAt, rowCount};
+ghost use Rattle.table.specs.Index.{indexOf};
+ghost use Rattle.program.specs.Program.{isRecord, localKind, localCount, codeOf, codeVerdict, Sized};
+ghost use Rattle.flow.specs.Steps.{nexts};
+ghost use Rattle.flow.specs.Places.{succs, localMoves, startStatus};
+ghost use Rattle.locals.specs.Sets.{inserted, contains, meets, those};
+ghost use Rattle.locals.specs.Locals.{bareStep, parameterCount, needsFull, nodesOf, localFault, localsWith, faultFrom};
+use spread::Moves;
+use table::Row;
+use table::Verdict;
+use table::format;
+use table::index::Index;
+use table::index::ProcedureEntry;
+
+// A set of locals.
+pub struct LocalSet {
+    pub has: [bool; 16],
+}
+
+impl LocalSet {
+    pub const EMPTY: LocalSet = LocalSet { has: [false; 16] };
+
+    // The set with local l; a number that is no local's changes nothing.
+    pub fn insert(mut self, l: usize) -> Self
+        ensures { λ r. ⌜ r ≡ inserted self l ⌝ }
+    {
+        if l < 16 {
+            self.has[l] = true;
+        }
+        self
+    }
+
+    // Whether local l is in the set.
+    pub fn contains(self, l: usize) -> bool
+        ensures { λ r. ⌜ r ≡ contains self l ⌝ }
+    {
+        if l < 16 { self.has[l] } else { false }
+    }
+
+    // Whether some local is in both sets.
+    pub fn meets(self, other: LocalSet) -> bool
+        ensures { λ r. ⌜ r ≡ meets self other ⌝ }
+    {
+        let mut l = 0;
+        while l < 16 {
+            if self.has[l] {
+                if other.has[l] {
+                    return true;
+                }
+            }
+            l += 1;
+        }
+        false
+    }
+}
+
+// The status of local l after an instruction: 0 full, 1 empty.
+fn status_after(row: Row, l: usize, x: usize) -> usize
+    ensures { λ r. ⌜ r ≡ cond (eqb (row .b) l) (cond (eqb (row .a) 2) 1 (cond (eqb (row .a) 4) 0 x)) x ⌝ }
+{
+    if row.b as usize != l {
+        return x;
+    }
+    if row.a == format::MV_LOC {
+        return 1;
+    }
+    if row.a == format::ST_LOC {
+        return 0;
+    }
+    x
+}
+
+// Visits what follows from node u: local l at instruction u / 2 with status u % 2.
+fn expand(
+    visited: &mut [bool],
+    queue: &mut [u16],
+    code: &[u8],
+    tail: usize,
+    l: usize,
+    u: usize,
+) -> usize
+    requires { ⌜ (rowCount (now code) ≤ 256) × (u < 512) ⌝ }
+    ensures { λ r. ⌜ after (now (visited .exit)) (now (queue .exit)) r ≡ visitAll (after (now (visited .entry)) (now (queue .entry)) tail) (succs 2 (nexts (now (code .entry))) (localMoves (bareStep (now (code .entry))) l) u) ⌝ }
+{
+    let n = code.len() / format::ROW_BYTES;
+    let i = u / 2;
+    let row = table::row_at(code, i);
+    let y = status_after(row, l, u % 2);
+    spread::go_on(
+        visited,
+        queue,
+        tail,
+        2,
+        n,
+        row,
+        i,
+        Moves::NONE.add(y as u16),
+    )
+}
+
+// The status that local l starts with: a parameter starts full, any other local empty.
+fn start_status(params: usize, l: usize) -> usize
+    ensures { λ r. ⌜ r ≡ startStatus params l ⌝ }
+{
+    if l < params { 0 } else { 1 }
+}
+
+// The nodes of local l: breadth first, each once.
+fn spread_local(visited: &mut [bool], queue: &mut [u16], code: &[u8], params: usize, l: usize)
+    requires { ⌜ (length (now visited) ≡ 2 * rowCount (now code)) × (512 ≤ length (now queue)) × (0 < rowCount (now code)) × (rowCount (now code) ≤ 256) ⌝ }
+    ensures { λ _. ⌜ now (visited .exit) ≡ nodesOf (now (code .entry)) params l ⌝ }
+{
+    let start = start_status(params, l);
+    reach::clear(visited);
+    let mut tail = reach::visit(visited, queue, 0, start);
+    let mut head = 0;
+    while head < tail {
+        let u = queue[head] as usize;
+        tail = expand(visited, queue, code, tail, l, u);
+        head += 1;
+    }
+}
+
+// The nodes of every local, one after the other.
+fn spread_locals(nodes: &mut [bool], queue: &mut [u16], code: &[u8], params: usize, count: usize)
+    requires { ⌜ (2 * rowCount (now code) * count ≤ length (now nodes)) × (512 ≤ length (now queue)) × (0 < rowCount (now code)) × (rowCount (now code) ≤ 256) × (count ≤ 16) ⌝ }
+    ensures { λ _. ⌜ ((l : ℕ) → l < count → take (2 * rowCount (now (code .entry))) (drop (2 * rowCount (now (code .entry)) * l) (now (nodes .exit))) ≡ nodesOf (now (code .entry)) params l) ⌝ }
+{
+    let n = code.len() / format::ROW_BYTES;
+    let mut l = 0;
+    while l < count {
+        let from = 2 * n * l;
+        let to = from + 2 * n;
+        spread_local(&mut nodes[from..to], queue, code, params, l);
+        l += 1;
+    }
+}
+
+// The status of local l on arriving at instruction i of n: whether some walk leaves it empty, or full.
+fn can_be_empty(nodes: &[bool], n: usize, l: usize, i: usize) -> bool
+    requires { ⌜ (n ≤ 256) × (l < 16) × (i < 256) ⌝ }
+    ensures { λ r. ⌜ r ≡ getD (now (nodes .entry)) (2 * n * l + (2 * i + 1)) false ⌝ }
+{
+    let at = 2 * n * l + (2 * i + 1);
+    if at < nodes.len() { nodes[at] } else { false }
+}
+
+fn can_be_full(nodes: &[bool], n: usize, l: usize, i: usize) -> bool
+    requires { ⌜ (n ≤ 256) × (l < 16) × (i < 256) ⌝ }
+    ensures { λ r. ⌜ r ≡ getD (now (nodes .entry)) (2 * n * l + 2 * i) false ⌝ }
+{
+    let at = 2 * n * l + 2 * i;
+    if at < nodes.len() { nodes[at] } else { false }
+}
+
+// The locals that are full on every walk that arrives at instruction i.
+fn always_full(nodes: &[bool], n: usize, count: usize, i: usize) -> LocalSet
+    requires { ⌜ (n ≤ 256) × (count ≤ 16) × (i < 256) ⌝ }
+    ensures { λ r. ⌜ r ≡ those (λ (l : ℕ). not (getD (now (nodes .entry)) (2 * n * l + (2 * i + 1)) false)) count ⌝ }
+{
+    let mut set = LocalSet::EMPTY;
+    let mut l = 0;
+    while l < count {
+        if !can_be_empty(nodes, n, l, i) {
+            set = set.insert(l);
+        }
+        l += 1;
+    }
+    set
+}
+
+// The locals that some walk that arrives at instruction i leaves full.
+fn sometimes_full(nodes: &[bool], n: usize, count: usize, i: usize) -> LocalSet
+    requires { ⌜ (n ≤ 256) × (count ≤ 16) × (i < 256) ⌝ }
+    ensures { λ r. ⌜ r ≡ those (λ (l : ℕ). getD (now (nodes .entry)) (2 * n * l + 2 * i) false) count ⌝ }
+{
+    let mut set = LocalSet::EMPTY;
+    let mut l = 0;
+    while l < count {
+        if can_be_full(nodes, n, l, i) {
+            set = set.insert(l);
+        }
+        l += 1;
+    }
+    set
+}
+
+// Whether local l of a procedure is a record.
+fn is_record_local(table: &[u8], p: ProcedureEntry, l: usize) -> bool
+    requires { ⌜ l < 65536 ⌝ }
+    ensures { λ r. ⌜ r ≡ isRecord (localKind (now (table .entry)) p l) ⌝ }
+{
+    program::row_kind(table::row_at(table, (p.row as usize) + 1 + l)) % 4 == 1
+}
+
+// The locals of a procedure that are records.
+fn record_locals(table: &[u8], p: ProcedureEntry, count: usize) -> LocalSet
+    requires { ⌜ count ≤ 16 ⌝ }
+    ensures { λ r. ⌜ r ≡ those (λ (l : ℕ). isRecord (localKind (now (table .entry)) p l)) count ⌝ }
+{
+    let mut set = LocalSet::EMPTY;
+    let mut l = 0;
+    while l < count {
+        if is_record_local(table, p, l) {
+            set = set.insert(l);
+        }
+        l += 1;
+    }
+    set
+}
+
+// Whether an opcode needs its local full.
+fn needs_full(opcode: u8) -> bool
+    ensures { λ r. ⌜ r ≡ needsFull opcode ⌝ }
+{
+    match opcode {
+        format::MV_LOC => true,
+        format::CP_LOC => true,
+        format::BORROW_LOC => true,
+        _ => false,
+    }
+}
+
+// How many locals a procedure has.
+fn local_count(p: ProcedureEntry) -> usize
+    ensures { λ r. ⌜ r ≡ localCount p ⌝ }
+{
+    let end = p.results as usize;
+    let start = (p.row as usize) + 1;
+    if start <= end { end - start } else { 0 }
+}
+
+// How many parameters a procedure has.
+fn parameter_count(table: &[u8], p: ProcedureEntry) -> usize
+    ensures { λ r. ⌜ r ≡ parameterCount (now (table .entry)) p ⌝ }
+{
+    let end = program::parameters_end(table, p);
+    let start = (p.row as usize) + 1;
+    if start <= end { end - start } else { 0 }
+}
+
+// The number that instruction i of n earns, or 0. `nodes` has what walks leave in each of the locals, `records` those that are records.
+fn fault_at(nodes: &[bool], row: Row, n: usize, count: usize, records: LocalSet, i: usize) -> u8
+    requires { ⌜ (n ≤ 256) × (count ≤ 16) × (i < 256) ⌝ }
+    ensures { λ r. ⌜ r ≡ faultFrom (now (nodes .entry)) row n count records i ⌝ }
+{
+    let opcode = row.a;
+    let b = row.b as usize;
+    if needs_full(opcode) {
+        if b < count {
+            if !always_full(nodes, n, count, i).contains(b) {
+                return 11;
+            }
+        }
+        return 0;
+    }
+    if opcode == format::ST_LOC {
+        if records.contains(b) {
+            if sometimes_full(nodes, n, count, i).contains(b) {
+                return 12;
+            }
+        }
+        return 0;
+    }
+    if opcode == format::RET {
+        if sometimes_full(nodes, n, count, i).meets(records) {
+            return 12;
+        }
+    }
+    0
+}
+
+// The instructions of a procedure, whose code is the part `code`.
+fn judge_code(
+    code: &[u8],
+    nodes: &[bool],
+    own: ProcedureEntry,
+    count: usize,
+    records: LocalSet,
+) -> Verdict
+    requires { ⌜ (rowCount (now code) ≤ 256) × (count ≤ 16) ⌝ }
+    ensures { λ r. ⌜ r ≡ codeVerdict (λ (i : ℕ). faultFrom (now (nodes .entry)) (rowAt (now (code .entry)) i) (rowCount (now (code .entry))) count records i) (own .code) (rowCount (now (code .entry))) ⌝ }
+{
+    let n = code.len() / format::ROW_BYTES;
+    let mut i = 0;
+    while i < n {
+        let row = table::row_at(code, i);
+        let fault = fault_at(nodes, row, n, count, records, i);
+        if fault != 0 {
+            return Verdict::Refused(fault, (own.code as usize) + i);
+        }
+        i += 1;
+    }
+    Verdict::Accepted(n)
+}
+
+// One procedure; `nodes` and `queue` are room to work in.
+fn judge_procedure(
+    table: &[u8],
+    code: &[u8],
+    nodes: &mut [bool],
+    queue: &mut [u16],
+    own: ProcedureEntry,
+) -> Verdict
+    requires { ⌜ (now code ≡ codeOf (now table) own) × (rowCount (now code) ≤ 256) × (localCount own ≤ 16) × (8192 ≤ length (now nodes)) × (512 ≤ length (now queue)) ⌝ }
+    ensures { λ r. ⌜ r ≡ codeVerdict (localFault (now (table .entry)) own) (own .code) (rowCount (now (code .entry))) ⌝ }
+{
+    let n = code.len() / format::ROW_BYTES;
+    if n == 0 {
+        return Verdict::Accepted(0);
+    }
+    let count = local_count(own);
+    let params = parameter_count(table, own);
+    spread_locals(nodes, queue, code, params, count);
+    let records = record_locals(table, own, count);
+    judge_code(code, nodes, own, count, records)
+}
+
+// The locals pass over a table with its index, where each procedure has at most 16 locals and 256 instructions.
+pub fn locals_with(table: &[u8], index: Index) -> Verdict
+    requires { ⌜ (index ≡ indexOf (now table)) × Sized (now table) index ⌝ }
+    ensures { λ r. ⌜ r ≡ localsWith index (now (table .entry)) ⌝ }
+{
+    let rows = table.len() / format::ROW_BYTES;
+    let mut nodes = [false; 8192];
+    let mut queue = [0u16; 512];
+    let mut p = 0;
+    while p < format::MAX_PROCEDURES {
+        if index.procedures <= p {
+            return Verdict::Accepted(rows);
+        }
+        let own = index.procedure_entries[p];
+        let code = table::procedures::part(table, own.code as usize, own.end as usize);
+        let verdict = judge_procedure(table, code, &mut nodes, &mut queue, own);
+        if let Verdict::Refused(number, row) = verdict {
+            return Verdict::Refused(number, row);
+        }
+        p += 1;
+    }
+    Verdict::Accepted(rows)
+}

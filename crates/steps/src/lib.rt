@@ -1,0 +1,180 @@
+// How many operands each instruction takes and pushes, and which of those that it pushes are marked of themselves.
+ghost use mathlib.Core.Path.{_≡_};
+ghost use mathlib.Core.Bool.{Bool, false};
+ghost use Prim.Native.Nat.{ℕ, _+_, _-_, _*_, _<_};
+ghost use lib.ListN.{length, getD};
+ghost use lib.Dec.{eqb};
+ghost use mathlib.Core.Bool.{cond};
+ghost use Rattle.program.specs.Program.{number, parametersEnd};
+ghost use Rattle.kinds.specs.Effects.{effectOf};
+ghost use Rattle.steps.specs.Steps.{borrowsGuarded, stepOf, viewStep, givenBy};
+use table::Row;
+use table::format;
+use table::index::ProcedureEntry;
+use table::index::TypeEntry;
+
+// What an instruction takes and pushes.
+pub struct Counts {
+    pub takes: u16,
+    pub gives: u16,
+}
+
+// An instruction: opcode and operand, how many operands it takes and pushes, and whether each of the first four that it pushes is marked of itself.
+pub struct Shape {
+    pub opcode: u8,
+    pub operand: u16,
+    pub takes: u16,
+    pub gives: u16,
+    pub fresh: [bool; 4],
+}
+
+impl Shape {
+    pub const NONE: Shape = Shape {
+        opcode: 0,
+        operand: 0,
+        takes: 0,
+        gives: 0,
+        fresh: [false; 4],
+    };
+}
+
+// How many rows there are from one to before another.
+fn between(from: u32, to: u32) -> u16
+    requires { ⌜ to < 65536 ⌝ }
+    ensures { λ r. ⌜ r ≡ to - from ⌝ }
+{
+    if from <= to { (to - from) as u16 } else { 0 }
+}
+
+// How many fields a type, and how many parameters and results a procedure has.
+fn fields_of(y: TypeEntry) -> u16
+    ensures { λ r. ⌜ r ≡ y .end - (y .row + 1) ⌝ }
+{
+    between((y.row as u32) + 1, y.end as u32)
+}
+
+pub fn parameters_of(table: &[u8], p: ProcedureEntry) -> u16
+    ensures { λ r. ⌜ r ≡ parametersEnd (now (table .entry)) p - (p .row + 1) ⌝ }
+{
+    let end = program::parameters_end(table, p);
+    let start = (p.row as usize) + 1;
+    if start <= end {
+        (end - start) as u16
+    } else {
+        0
+    }
+}
+
+fn results_of(p: ProcedureEntry) -> u16
+    ensures { λ r. ⌜ r ≡ p .code - p .results ⌝ }
+{
+    between(p.results as u32, p.code as u32)
+}
+
+// How many operands an instruction takes and pushes.
+pub fn counts_of(
+    table: &[u8],
+    row: Row,
+    own: ProcedureEntry,
+    named: TypeEntry,
+    callee: ProcedureEntry,
+) -> Counts
+    ensures { λ r. ⌜ (r .takes ≡ length (effectOf (now (table .entry)) own named callee row number .takes)) × (r .gives ≡ length (effectOf (now (table .entry)) own named callee row number .gives)) ⌝ }
+{
+    let opcode = row.a;
+    match opcode {
+        format::POP => Counts { takes: 1, gives: 0 },
+        format::LOAD_CONST => Counts { takes: 0, gives: 1 },
+        format::MV_LOC => Counts { takes: 0, gives: 1 },
+        format::CP_LOC => Counts { takes: 0, gives: 1 },
+        format::ST_LOC => Counts { takes: 1, gives: 0 },
+        format::BORROW_LOC => Counts { takes: 0, gives: 1 },
+        format::READ_REF => Counts { takes: 1, gives: 1 },
+        format::WRITE_REF => Counts { takes: 2, gives: 0 },
+        format::BORROW_FLD => Counts { takes: 1, gives: 1 },
+        format::PACK => Counts {
+            takes: fields_of(named),
+            gives: 1,
+        },
+        format::UNPACK => Counts {
+            takes: 1,
+            gives: fields_of(named),
+        },
+        format::MOVE_TO => Counts { takes: 2, gives: 0 },
+        format::MOVE_FROM => Counts { takes: 1, gives: 1 },
+        format::BORROW_GLOBAL => Counts { takes: 1, gives: 1 },
+        format::EXISTS => Counts { takes: 1, gives: 1 },
+        format::CALL => Counts {
+            takes: parameters_of(table, callee),
+            gives: results_of(callee),
+        },
+        format::RET => Counts {
+            takes: results_of(own),
+            gives: 0,
+        },
+        format::BRANCH => Counts { takes: 0, gives: 0 },
+        format::BRANCH_COND => Counts { takes: 1, gives: 0 },
+        format::OP => Counts { takes: 2, gives: 1 },
+        20..=255 => Counts { takes: 0, gives: 0 },
+    }
+}
+
+// Whether BorrowFld borrows a guarded field.
+fn borrows_guarded(table: &[u8], row: Row, named: TypeEntry) -> bool
+    ensures { λ r. ⌜ r ≡ borrowsGuarded (now (table .entry)) named row ⌝ }
+{
+    if row.a != format::BORROW_FLD {
+        return false;
+    }
+    table::row_at(table, (named.row as usize) + 1 + ((row.b % 8) as usize)).c == 1
+}
+
+// Whether result r of procedure q is given as marked.
+fn result_given(results: &[bool], q: u16, r: usize) -> bool
+    requires { ⌜ r < 4 ⌝ }
+    ensures { λ x. ⌜ x ≡ getD (now (results .entry)) (4 * q + r) false ⌝ }
+{
+    let at = 4 * (q as usize) + r;
+    if at < results.len() {
+        results[at]
+    } else {
+        false
+    }
+}
+
+// Which of the first four operands that an instruction pushes are marked of themselves.
+fn fresh_of(table: &[u8], results: &[bool], row: Row, named: TypeEntry) -> [bool; 4]
+    ensures { λ x. ⌜ ((r : ℕ) → r < 4 → getD x r false ≡ cond (eqb (row .a) 15) (getD (now (results .entry)) (4 * row .b + r) false) (borrowsGuarded (now (table .entry)) named row)) ⌝ }
+{
+    if row.a == format::CALL {
+        return [
+            result_given(results, row.b, 0),
+            result_given(results, row.b, 1),
+            result_given(results, row.b, 2),
+            result_given(results, row.b, 3),
+        ];
+    }
+    [borrows_guarded(table, row, named); 4]
+}
+
+// What a walk sees of an instruction. `results` has which procedure's results are given as marked.
+pub fn shape_of(
+    table: &[u8],
+    results: &[bool],
+    row: Row,
+    own: ProcedureEntry,
+    named: TypeEntry,
+    callee: ProcedureEntry,
+) -> Shape
+    ensures { λ r. ⌜ viewStep r ≡ stepOf (now (table .entry)) (givenBy (λ (l : ℕ). false) (now (results .entry))) own named callee row ⌝ }
+{
+    let counts = counts_of(table, row, own, named, callee);
+    let fresh = fresh_of(table, results, row, named);
+    Shape {
+        opcode: row.a,
+        operand: row.b,
+        takes: counts.takes,
+        gives: counts.gives,
+        fresh,
+    }
+}
