@@ -29,6 +29,8 @@ extern "C" {
  *   13  marked reference given to a Call
  *   14  marked reference returned
  *
+ * Nothing may write the table while the call runs, and buffers lent to one call may not overlap.
+ *
  * A call needs 41 KB of stack (measured over made tables of every kind): 64 KiB are enough.
  *
  * A table of no bytes may be given as any pointer, null too, with length 0: nothing is read through it.

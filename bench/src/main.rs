@@ -48,6 +48,15 @@ fn credits(procedures: usize, turns: usize) -> Vec<u8> {
     rows.concat()
 }
 
+/// A table of 2,048 rows, the most there may be: long procedures, and two empty modules to fill it.
+fn full() -> Vec<u8> {
+    let mut table = credits(8, 60);
+    table.extend(&credits(1, 24)[3 * 16..]);
+    table.extend(row(1, 0, 0, 0, 0));
+    table.extend(row(1, 0, 0, 0, 0));
+    table
+}
+
 /// Procedures with a loop in which references move on from local to local, each time round by one.
 fn rounds(procedures: usize, locals: u16) -> Vec<u8> {
     let mut rows = vec![row(1, 1, 0, 0, 0), row(2, 0, 0, 0, 0), row(3, 0, 0, 1, 0)];
@@ -86,7 +95,7 @@ fn speed() {
         ("credits, small", credits(1, 1)),
         ("credits, typical", credits(20, 3)),
         ("credits, large", credits(60, 7)),
-        ("credits, long procedures", credits(8, 60)),
+        ("credits, 2,048 rows", full()),
         ("rounds, small", rounds(1, 8)),
         ("rounds, large", rounds(40, 16)),
         ("random bytes", (0..32768u32).map(|i| (i.wrapping_mul(2654435761) >> 13) as u8).collect()),
