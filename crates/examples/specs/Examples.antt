@@ -1,17 +1,32 @@
 -- One table of examples: the bytes of a table and what judging them answers.
 use Prim.Native.Nat.{ℕ, _-_}
 use mathlib.Core.List.{List, [], _∷_, _++_, map}
-use lib.ListN.{take, drop}
+use lib.ListN.{length, take, drop, replicate}
+use Prim.Native.String.{String}
 use Rattle.table.specs.declared.Verdict.{Verdict}
 use Rattle.table.specs.declared.Verdict.the-variants.{Accepted, Refused}
-use Rattle.examples.specs.Tables.{row, table, trusted, guest, type, number, guarded, public, private, parameter, local, code, loadConst, rowsS, rowsT, rowsRound, with-row, without-row, times}
+use Rattle.rules.specs.Ascii.{ascii}
+use Rattle.rules.specs.Run.{Ran, minText}
+use Rattle.examples.specs.Tables.{row, table, trusted, guest, type, number, guarded, public, private, parameter, local, code, loadConst, call, argument, rowsS, rowsT, rowsRound, with-row, without-row, times}
 
-pub record Example : Type 0 where
-  pub bytes : List ℕ
-  pub verdict : Verdict
+-- an example: the bytes of a table and its verdict; or a table, a call list and the length of a text buffer, with the answer and the text
+pub data Example : Type 0 where
+  judging : (bytes : List ℕ) → Verdict → Example
+  running : (table list : List ℕ) → (room : ℕ) → Verdict → (text : List ℕ) → Example
 
 abbrev pub gives : List ℕ → Verdict → Example
-gives bytes verdict = record { bytes = bytes; verdict = verdict }
+gives bytes verdict = judging bytes verdict
+
+-- a list that is run, and one that is refused
+abbrev pub prints : List ℕ → List ℕ → List ℕ → Example
+prints t l text = running t l minText (Accepted (length text)) text
+
+abbrev pub refuses : List ℕ → List ℕ → ℕ → ℕ → ℕ → Example
+refuses t l room number row = running t l room (Refused number row) []
+
+-- a line of text
+unfoldable pub line : String → List ℕ
+line words = ascii words ++ ascii "\n"
 
 unfoldable pub examples : List Example
 examples =
@@ -71,12 +86,45 @@ examples =
     ∷ gives (table (trusted ∷ type ∷ public ∷ parameter 0 0 ∷ local 1 0 ∷ code 2 0 ∷ code 18 4 ∷ code 9 0 ∷ code 4 1 ∷ code 16 0 ∷ [])) (Refused 12 9)
     -- a walk goes on past a faulty row
     ∷ gives (table (guest ∷ public ∷ local 0 0 ∷ code 17 4 ∷ code 3 0 ∷ code 0 0 ∷ code 16 0 ∷ code 2 0 ∷ code 0 0 ∷ code 17 1 ∷ [])) (Refused 11 4)
+    -- S run: budget 5 finishes, budget 4 stops 31 at row 9; twice with budget 100
+    ∷ prints (table rowsS) (table (call 0 5 ∷ argument 7 ∷ [])) (line "call 0 done" ++ line "store 0 7 500")
+    ∷ prints (table rowsS) (table (call 0 4 ∷ argument 7 ∷ [])) (line "call 0 stop 31 row 9")
+    ∷ prints (table rowsS) (table (call 0 100 ∷ argument 7 ∷ call 0 100 ∷ argument 7 ∷ [])) (line "call 0 done" ++ line "call 1 stop 33 row 8" ++ line "store 0 7 500")
+    -- an empty list
+    ∷ prints (table rowsS) [] []
+    -- a refused table; 15: a short row, an argument first; 16: no such procedure, no budget; 17
+    ∷ refuses (table rowsT) [] 65536 14 15
+    ∷ refuses (table rowsS) (1 ∷ []) 65536 15 0
+    ∷ refuses (table rowsS) (table (argument 7 ∷ [])) 65536 15 0
+    ∷ refuses (table rowsS) (table (call 1 5 ∷ argument 7 ∷ [])) 65536 16 0
+    ∷ refuses (table rowsS) (table (call 0 5 ∷ argument 7 ∷ call 0 0 ∷ argument 7 ∷ [])) 65536 16 2
+    ∷ refuses (table rowsS) [] 65535 17 0
     ∷ []
 
--- the answers that the examples give
-unfoldable pub verdicts : List Verdict
-verdicts = map (λ (e : Example). e .verdict) examples
+-- what an example is answered with
+pub data Answer : Type 0 where
+  judged : Verdict → Answer
+  ran : Verdict → (text : List ℕ) → Answer
 
--- what a rule answers to them
-unfoldable pub answers : (List ℕ → Verdict) → List Verdict
-answers rule = map (λ (e : Example). rule (e .bytes)) examples
+-- the answers that the examples give
+abbrev pub given : Example → Answer
+given (judging bytes verdict) = judged verdict
+given (running t l room verdict text) = ran verdict text
+
+unfoldable pub expected : List Answer
+expected = map given examples
+
+-- what the rules of judging and running answer to them; of a buffer that is not refused the text is shown
+abbrev pub shown : Ran → Answer
+shown r = ran (r .answer) (take (textLength (r .answer)) (r .buffer))
+  where
+    textLength : Verdict → ℕ
+    textLength (Accepted size) = size
+    textLength (Refused number row) = 0
+
+abbrev pub answered : (List ℕ → Verdict) → (List ℕ → List ℕ → List ℕ → Ran) → Example → Answer
+answered judge run (judging bytes verdict) = judged (judge bytes)
+answered judge run (running t l room verdict text) = shown (run t l (replicate room 0))
+
+unfoldable pub answers : (List ℕ → Verdict) → (List ℕ → List ℕ → List ℕ → Ran) → List Answer
+answers judge run = map (answered judge run) examples

@@ -3,6 +3,7 @@ use Prim.Native.Nat.{ℕ, zero, suc, _*_, _-_}
 use mathlib.Core.List.{List, [], _∷_, _++_}
 use lib.ListN.{take, drop}
 use Rattle.laws.specs.Numbers.{toLe}
+use Rattle.rules.specs.Calls.{callRow, argumentRow}
 use Rattle.table.specs.Format.{moduleKind, typeKind, fieldKind, procedureKind, localKind, resultKind, instructionKind, rowBytes}
 
 -- the bytes of a row
@@ -52,6 +53,13 @@ code op b = row instructionKind op b 0 0
 
 unfoldable pub loadConst : ℕ → List ℕ
 loadConst d = row instructionKind 1 0 0 d
+
+-- rows of a call list: a call of a procedure with a budget, and an argument
+unfoldable pub call : ℕ → ℕ → List ℕ
+call procedure budget = row callRow 0 procedure budget 0
+
+unfoldable pub argument : ℕ → List ℕ
+argument d = row argumentRow 0 0 0 d
 
 -- S: a credit of 500 kilos is packed and moved to an address
 unfoldable pub rowsS : List (List ℕ)

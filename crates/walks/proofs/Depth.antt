@@ -36,7 +36,7 @@ length-pushed [] ms = omega arith
 length-pushed (x ∷ xs) ms = omega (arith, length-pushed xs (x ∷ ms))
 
 -- an instruction pushes as many operands as it has fresh marks
-length-pushes : (step : ℕ → Step) → Regular step → (i : ℕ) (ls : List Slot) → length (pushes (step i) ls) ≡ length (step i .fresh)
+pub length-pushes : (step : ℕ → Step) → Regular step → (i : ℕ) (ls : List Slot) → length (pushes (step i) ls) ≡ length (step i .fresh)
 unfolding pushes
 length-pushes step r i ls = go (eqb (step i .opcode) opMvLoc) (eqb (step i .opcode) opCpLoc) refl refl
   where

@@ -32,14 +32,14 @@ use Rattle.judging.proofs.Sizes.{rows-fine, nth-hit}
 use Rattle.walks.proofs.Rows.{count-stretch, own, code-named}
 
 -- what a row without fault is not
-row-tests : (s : Above) (row : Row) → rowFault s row ≡ 0 → (tooMany s row ≡ false) × (badGuard s row ≡ false)
+pub row-tests : (s : Above) (row : Row) → rowFault s row ≡ 0 → (tooMany s row ≡ false) × (badGuard s row ≡ false) × (badValue s row ≡ false)
 unfolding rowFault
 row-tests s row e =
     let a = unfaulted (misplaced s row) 1 _ e in
     let b = unfaulted (tooMany s row) 2 _ (a .1) in
     let c = unfaulted (unusedByte row) 3 _ (b .1) in
     let d = unfaulted (badValue s row) 3 _ (c .1) in
-    (b .0, unfaulted (badGuard s row) 3 0 (d .1) .0)
+    (b .0, unfaulted (badGuard s row) 3 0 (d .1) .0, d .0)
 
 -- modules are numbered through the table
 no-owner : (k : ℕ) → member 1 (getD owned k []) ≡ false
@@ -128,7 +128,7 @@ module _ (t : List ℕ) (fine : (i : ℕ) → i < rowCount t → faultAt t i ≡
   -- a type, and a field of it
   module _ (y f : ℕ) (there : y < indexOf t .types) (inside : f < fieldCount (typeIn (indexOf t) y)) where
     -- its row
-    type-row : ℕ
+    unfoldable pub type-row : ℕ
     type-row = nth (isKind t typeKind) (indexedRows t) y
 
     -- it has an entry in the index
@@ -143,22 +143,22 @@ module _ (t : List ℕ) (fine : (i : ℕ) → i < rowCount t → faultAt t i ≡
             let z : f < 0 - (0 + 1) = rw e at inside in absurd (omega arith)
 
     -- its entry is that of its row
-    type-is : typeIn (indexOf t) y ≡ typeAt t type-row
+    pub type-is : typeIn (indexOf t) y ≡ typeAt t type-row
     unfolding typeIn indexOf type-row
     type-is = entries-at (isKind t typeKind) (typeAt t) noType (indexedRows t) 64 y type-few ∙ entryOf-at (isKind t typeKind) (typeAt t) noType (indexedRows t) y there
 
     -- its row is one that the index covers
-    type-below : type-row < indexedRows t
+    pub type-below : type-row < indexedRows t
     unfolding type-row indexOf
     type-below = nth-below (isKind t typeKind) (indexedRows t) y there
 
     -- its row is of kind 2
-    type-kind : kindAt t type-row ≡ typeKind
+    pub type-kind : kindAt t type-row ≡ typeKind
     unfolding type-row indexOf isKind
     type-kind = eqb-true _ _ (nth-hit (isKind t typeKind) (indexedRows t) y there)
 
     -- the field's row is one of its rows
-    field-end : type-row + 1 + f < typeAt t type-row .end
+    pub field-end : type-row + 1 + f < typeAt t type-row .end
     unfolding fieldCount typeAt
     field-end = let h = rw type-is at inside in omega (arith, h)
 

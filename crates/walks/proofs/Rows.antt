@@ -124,17 +124,17 @@ module _ (t : List ℕ) (q : ℕ) (there : q < indexOf t .procedures) (few : q <
   entry-is = procedure-there t q there few .0
 
   -- so is its kind
-  row-kind : kindAt t rowOf ≡ procedureKind
+  pub row-kind : kindAt t rowOf ≡ procedureKind
   unfolding isKind
   row-kind = eqb-true _ _ row-hit
 
   -- there are q procedures above it
-  row-count : count (isKind t procedureKind) rowOf ≡ q
+  pub row-count : count (isKind t procedureKind) rowOf ≡ q
   unfolding rowOf
   row-count = count-nth (isKind t procedureKind) (indexedRows t) q row-there
 
   -- its parts are in order
-  parts : (rowOf < resultsStart t rowOf) × (resultsStart t rowOf ≤ codeStart t rowOf) × (codeStart t rowOf ≤ codeEnd t rowOf) × (codeEnd t rowOf ≤ indexedRows t)
+  pub parts : (rowOf < resultsStart t rowOf) × (resultsStart t rowOf ≤ codeStart t rowOf) × (codeStart t rowOf ≤ codeEnd t rowOf) × (codeEnd t rowOf ≤ indexedRows t)
   parts = procedure-parts t rowOf row-below
 
   -- the rows below its own are of kinds 5, 6 and 7

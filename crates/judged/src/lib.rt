@@ -1,0 +1,1 @@
+// What an accepted table gives a proof about running. No code.

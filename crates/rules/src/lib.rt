@@ -1,0 +1,1 @@
+// The rules of running. There is no code here: specs/ has the rules.

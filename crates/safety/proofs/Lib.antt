@@ -1,0 +1,15 @@
+pub mod Counts
+pub mod Changes
+pub mod Sounds
+pub mod Sorts
+pub mod Typing
+pub mod Places
+pub mod Frames
+pub mod Instructions
+pub mod Running
+pub mod Entering
+pub mod Cases
+pub mod Steps
+pub mod Callable
+pub mod Guests
+pub mod Demand3

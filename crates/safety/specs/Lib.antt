@@ -1,0 +1,4 @@
+pub mod Ownership
+pub mod Words
+pub mod Claim
+pub mod Callable
