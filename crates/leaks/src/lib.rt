@@ -1,21 +1,20 @@
 // The leaks pass: refusals 13 and 14.
 ghost use mathlib.Core.Path.{_≡_};
-ghost use mathlib.Core.Bool.{Bool, true, false, cond, _&&_, _||_};
-ghost use mathlib.Core.List.{List, [], _∷_};
+ghost use mathlib.Core.Bool.{true, false, cond, _&&_};
 ghost use Prim.Native.Nat.{ℕ, _+_, _*_, _≤_, _<_};
 ghost use lib.Dec.{eqb};
-ghost use lib.ListN.{length, getD};
+ghost use lib.ListN.{length};
 ghost use Rattle.reach.specs.Search.{after, visitAll};
 ghost use Rattle.table.specs.Rows.{rowAt, rowCount};
 ghost use Rattle.table.specs.Index.{indexOf};
 ghost use Rattle.program.specs.Program.{codeOf, codeVerdict, Sized};
 ghost use Rattle.flow.specs.Steps.{nexts};
-ghost use Rattle.flow.specs.Places.{succs, markMoves, within, placeMoves, markNodes, startPlaces};
+ghost use Rattle.flow.specs.Places.{succs, markMoves, within, markNodes, startPlaces};
 ghost use Rattle.spread.specs.Moves.{placesOf};
 ghost use Rattle.locals.specs.Sets.{contains};
 ghost use Rattle.locals.specs.Locals.{parameterCount};
 ghost use Rattle.steps.specs.Steps.{viewStep, stepAt, givenBy};
-ghost use Rattle.leaks.specs.Leaks.{inTrusted, someMarked, marksOf, leakFrom, leakIn, leaksWith, stepsOf};
+ghost use Rattle.leaks.specs.Leaks.{someMarked, marksOf, leakFrom, leakIn, leaksWith, stepsOf};
 use locals::LocalSet;
 use spread::Moves;
 use steps::Shape;
@@ -65,10 +64,10 @@ fn local_moves(s: Shape, x: usize) -> Moves
     if s.opcode == format::CP_LOC {
         return Moves::NONE.add(x as u16).add(17);
     }
-    if s.opcode == format::ST_LOC {
-        return Moves::NONE;
+    if s.opcode != format::ST_LOC {
+        return Moves::NONE.add(x as u16);
     }
-    Moves::NONE.add(x as u16)
+    Moves::NONE
 }
 
 // Where a mark on an operand goes: x is 17 to 32.
@@ -256,7 +255,7 @@ fn judge_code(nodes: &[bool], shapes: Shapes, own: ProcedureEntry, n: usize) -> 
     Verdict::Accepted(n)
 }
 
-// One procedure of a trusted module; `nodes` and `queue` are room to work in, `parameters` and `results` have the marks that are given.
+// One procedure of a trusted module; `nodes` and `queue` are room to work in, `results` has which procedure's results are given as marked.
 fn judge_procedure(
     table: &[u8],
     code: &[u8],

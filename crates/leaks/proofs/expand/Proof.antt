@@ -1,5 +1,5 @@
-use Rattle.leaks.proofs.Laws.{nodes-after}
 use borrow.Author.Needs.{needs}
+use Rattle.leaks.proofs.Laws.{nodes-after}
 use Rattle.leaks.proofs.expand.Statement.{statement}
 use Rattle.leaks.proofs.expand.Tie as tie
 

@@ -1,15 +1,15 @@
 use Prim.Native.Nat.{_*_}
 use mathlib.Core.Path.{_≡_, sym, ap, _∙_}
 use mathlib.Core.List.{_++_}
-use lib.Seq.{length-take-le, take-at}
-use lib.ListN.{length, take, drop}
-use Rattle.locals.specs.Locals.{parameterCount}
-use Rattle.table.specs.Rows.{rowCount}
-use Rattle.program.specs.Program.{codeVerdict}
-use Rattle.laws.specs.First.{firstFault}
-use Rattle.leaks.proofs.Laws.{procedure-verdict}
 use native.Mathlib.Omega.{arith}
 use borrow.Author.Needs.{needs}
+use lib.Seq.{length-take-le, take-at}
+use lib.ListN.{length, take, drop}
+use Rattle.laws.specs.First.{firstFault}
+use Rattle.table.specs.Rows.{rowCount}
+use Rattle.program.specs.Program.{codeVerdict}
+use Rattle.locals.specs.Locals.{parameterCount}
+use Rattle.leaks.proofs.Laws.{procedure-verdict}
 use Rattle.leaks.proofs.judge_procedure.Statement.{statement}
 use Rattle.leaks.proofs.judge_procedure.Tie as tie
 

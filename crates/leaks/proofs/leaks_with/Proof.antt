@@ -1,15 +1,16 @@
+-- The invariant: the procedures before procedure p are accepted.
 use Prim.Native.Nat.{_-_, _≤_}
 use mathlib.Core.Path.{_≡_, refl, sym, _∙_}
 use mathlib.Core.Logic.{⊎-elim}
 use mathlib.Core.Bool.{false}
+use native.Mathlib.Omega.{arith}
+use borrow.Author.Needs.{needs}
 use lib.ListN.{length, getD, replicate, length-map, List·getD-eq-default}
 use Rattle.program.specs.Program.{codeOf, procedureIn}
 use Rattle.program.proofs.Laws.{passFrom, pass-start, pass-end, pass-refused, pass-on, passes-past, passes-all, passes-at, passes-entry}
 use Rattle.steps.specs.Steps.{nothingGiven}
 use Rattle.leaks.specs.Leaks.{inTrusted, leakFault, leaksWith}
 use Rattle.leaks.proofs.Laws.{trusted-verdict, guest-verdict, parameters-fit}
-use borrow.Author.Needs.{needs}
-use native.Mathlib.Omega.{arith}
 use Rattle.leaks.proofs.leaks_with.Statement.{statement}
 use Rattle.leaks.proofs.leaks_with.Tie as tie
 
