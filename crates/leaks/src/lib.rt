@@ -114,14 +114,14 @@ fn expand(
     shape: Shape,
     u: usize,
 ) -> usize
-    requires { ⌜ (rowCount (now code) ≤ 256) × (u < 8448) ⌝ }
+    requires { ⌜ u < 8448 ⌝ }
     ensures { λ r. ⌜ after (now (visited .exit)) (now (queue .exit)) r ≡ visitAll (after (now (visited .entry)) (now (queue .entry)) tail) (succs 33 (nexts (now (code .entry))) (λ (i x : ℕ). within (markMoves (viewStep shape) x)) u) ⌝ }
 {
     let n = code.len() / format::ROW_BYTES;
     let i = u / 33;
     let row = table::row_at(code, i);
     let moves = mark_moves(shape, u % 33);
-    spread::go_on(visited, queue, tail, 33, n, row, i, moves)
+    spread::go_on(visited, queue, tail, 33, n, row, i as u16, moves)
 }
 
 // Visits the places where walks start: the parameters that are given as marked, the highest first, and the bare first instruction.

@@ -86,7 +86,7 @@ fn expand(
     l: usize,
     u: usize,
 ) -> usize
-    requires { ⌜ (rowCount (now code) ≤ 256) × (u < 512) ⌝ }
+    requires { ⌜ u < 512 ⌝ }
     ensures { λ r. ⌜ after (now (visited .exit)) (now (queue .exit)) r ≡ visitAll (after (now (visited .entry)) (now (queue .entry)) tail) (succs 2 (nexts (now (code .entry))) (localMoves (bareStep (now (code .entry))) l) u) ⌝ }
 {
     let n = code.len() / format::ROW_BYTES;
@@ -100,7 +100,7 @@ fn expand(
         2,
         n,
         row,
-        i,
+        i as u16,
         Moves::NONE.add(y as u16),
     )
 }
