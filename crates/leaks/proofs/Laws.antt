@@ -20,7 +20,7 @@ use Rattle.table.specs.declared.Verdict.the-variants.{Accepted}
 use Rattle.table.specs.declared.index.Index.{Index}
 use Rattle.table.specs.declared.index.ProcedureEntry.{ProcedureEntry}
 use Rattle.table.specs.Rows.{rowCount, rowAt}
-use Rattle.program.specs.Program.{codeOf, codeVerdict, localCount, parametersEnd}
+use Rattle.program.specs.Program.{codeOf, codeVerdict, localCount, parametersEnd, overLimits, limited}
 use Rattle.program.proofs.Laws.{verdictOf, on-part}
 use Rattle.flow.specs.Steps.{Step, below, nextOf, nexts}
 use Rattle.flow.specs.Places.{nodesOf, succs, reached, within, markMoves, placeMoves, startPlaces, markNodes, operandMarked}
@@ -220,17 +220,21 @@ module _ (t : List ℕ) (ix : Index) (p : ProcedureEntry) where
       → inTrusted t ix p ≡ true
       → c ≡ codeOf t p
       → results ≡ replicate 512 false
-      → v ≡ codeVerdict (leakFrom t ix (givenBy (λ (l : ℕ). false) results) p (marksOf t ix (givenBy (λ (l : ℕ). false) results) p)) (p .code) (rowCount c)
-      → verdictOf (leakFault t ix nothingGiven) ix t p ≡ v
-  unfolding leakFault
+      → v ≡ codeVerdict (limited t (λ (p : ProcedureEntry). leakFrom t ix (givenBy (λ (l : ℕ). false) results) p (marksOf t ix (givenBy (λ (l : ℕ). false) results) p)) p) (p .code) (rowCount c)
+      → verdictOf (limited t (leakFault t ix nothingGiven)) ix t p ≡ v
+  unfolding leakFault limited
   trusted-verdict c results v trusted e q h =
-      on-part (leakFault t ix nothingGiven) ix t c p v e
-      (h ∙ ap (λ (given : Given). codeVerdict (leakFrom t ix given p (marksOf t ix given p)) (p .code) (rowCount c)) (ap (givenBy (λ (l : ℕ). false)) q ∙ none-given)
-      ∙ ap (λ (b : Bool). codeVerdict (λ (i : ℕ). cond b (leakFrom t ix nothingGiven p (marksOf t ix nothingGiven p) i) 0) (p .code) (rowCount c)) (sym trusted))
+      on-part (limited t (leakFault t ix nothingGiven)) ix t c p v e
+      (h ∙ ap (λ (given : Given). codeVerdict (cond (overLimits t p) (λ (i : ℕ). 0) (leakFrom t ix given p (marksOf t ix given p))) (p .code) (rowCount c)) (ap (givenBy (λ (l : ℕ). false)) q ∙ none-given)
+      ∙ ap (λ (b : Bool). codeVerdict (cond (overLimits t p) (λ (i : ℕ). 0) (λ (i : ℕ). cond b (leakFrom t ix nothingGiven p (marksOf t ix nothingGiven p) i) 0)) (p .code) (rowCount c)) (sym trusted))
 
-  pub guest-verdict : inTrusted t ix p ≡ false → verdictOf (leakFault t ix nothingGiven) ix t p ≡ Accepted (rowCount (codeOf t p))
-  unfolding verdictOf leakFault codeVerdict
-  guest-verdict guest = clean-if Accepted _ _ 0 (rowCount (codeOf t p)) (λ j lo hi. rw guest) ∙ ap Accepted (zero-add (rowCount (codeOf t p)))
+  pub guest-verdict : inTrusted t ix p ≡ false → verdictOf (limited t (leakFault t ix nothingGiven)) ix t p ≡ Accepted (rowCount (codeOf t p))
+  unfolding verdictOf leakFault limited codeVerdict
+  guest-verdict guest = clean-if Accepted _ _ 0 (rowCount (codeOf t p)) (λ j lo hi. none j (overLimits t p)) ∙ ap Accepted (zero-add (rowCount (codeOf t p)))
+    where
+      none : (j : ℕ) (b : Bool) → cond {A = ℕ → ℕ} b (λ (i : ℕ). 0) (λ (i : ℕ). cond (inTrusted t ix p) (leakFrom t ix nothingGiven p (marksOf t ix nothingGiven p) i) 0) j ≡ 0
+      none j true = refl
+      none j false = rw guest
 
 -- a procedure with at most 16 locals has at most 16 parameters
 pub parameters-fit : (t : List ℕ) (p : ProcedureEntry) → localCount p ≤ 16 → parameterCount t p ≤ 16

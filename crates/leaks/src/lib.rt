@@ -6,13 +6,11 @@ ghost use lib.Dec.{eqb};
 ghost use lib.ListN.{length};
 ghost use Rattle.reach.specs.Search.{after, visitAll};
 ghost use Rattle.table.specs.Rows.{rowAt, rowCount};
-ghost use Rattle.table.specs.Index.{indexOf};
-ghost use Rattle.program.specs.Program.{codeOf, codeVerdict, Sized};
+ghost use Rattle.program.specs.Program.{codeOf, codeVerdict, limited};
 ghost use Rattle.flow.specs.Steps.{nexts};
 ghost use Rattle.flow.specs.Places.{succs, markMoves, within, markNodes, startPlaces};
 ghost use Rattle.spread.specs.Moves.{placesOf};
 ghost use Rattle.locals.specs.Sets.{contains};
-ghost use Rattle.locals.specs.Locals.{parameterCount};
 ghost use Rattle.steps.specs.Steps.{viewStep, stepAt, givenBy};
 ghost use Rattle.leaks.specs.Leaks.{someMarked, marksOf, leakFrom, leakIn, leaksWith, stepsOf};
 use locals::LocalSet;
@@ -255,7 +253,8 @@ fn judge_code(nodes: &[bool], shapes: Shapes, own: ProcedureEntry, n: usize) -> 
     Verdict::Accepted(n)
 }
 
-// One procedure of a trusted module; `nodes` and `queue` are room to work in, `results` has which procedure's results are given as marked.
+// One procedure of a trusted module; one over a limit is passed over. `nodes` and `queue` are room to work in, `results` has which
+// procedure's results are given as marked.
 fn judge_procedure(
     table: &[u8],
     code: &[u8],
@@ -265,10 +264,13 @@ fn judge_procedure(
     own: ProcedureEntry,
     index: Index,
 ) -> Verdict
-    requires { ⌜ (now code ≡ codeOf (now table) own) × (rowCount (now code) ≤ 256) × (parameterCount (now table) own ≤ 16) × (8448 ≤ length (now nodes)) × (8448 ≤ length (now queue)) ⌝ }
-    ensures { λ r. ⌜ r ≡ codeVerdict (leakFrom (now (table .entry)) index (givenBy (λ (l : ℕ). false) (now (results .entry))) own (marksOf (now (table .entry)) index (givenBy (λ (l : ℕ). false) (now (results .entry))) own)) (own .code) (rowCount (now (code .entry))) ⌝ }
+    requires { ⌜ (now code ≡ codeOf (now table) own) × (8448 ≤ length (now nodes)) × (8448 ≤ length (now queue)) ⌝ }
+    ensures { λ r. ⌜ r ≡ codeVerdict (limited (now (table .entry)) (λ p. leakFrom (now (table .entry)) index (givenBy (λ (l : ℕ). false) (now (results .entry))) p (marksOf (now (table .entry)) index (givenBy (λ (l : ℕ). false) (now (results .entry))) p)) own) (own .code) (rowCount (now (code .entry))) ⌝ }
 {
     let n = code.len() / format::ROW_BYTES;
+    if program::over_limits(table, own) {
+        return Verdict::Accepted(n);
+    }
     if n == 0 {
         return Verdict::Accepted(0);
     }
@@ -293,9 +295,8 @@ fn is_trusted(table: &[u8], row: u16) -> bool
     table::row_at(table, row as usize).a == 1
 }
 
-// The leaks pass over a table with its index, where each procedure has at most 16 locals and 256 instructions.
+// The leaks pass over a table with a given index.
 pub fn leaks_with(table: &[u8], index: Index) -> Verdict
-    requires { ⌜ (index ≡ indexOf (now table)) × Sized (now table) index ⌝ }
     ensures { λ r. ⌜ r ≡ leaksWith index (now (table .entry)) ⌝ }
 {
     let rows = table.len() / format::ROW_BYTES;
