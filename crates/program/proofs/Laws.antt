@@ -1,14 +1,14 @@
 -- Laws of parameters, of passes over procedures, of jump targets, and of a table's own index.
-use Prim.Native.Nat.{ℕ, zero, suc, _+_, _-_, _*_, _<_, _≤_}
+use Prim.Native.Nat.{ℕ, zero, suc, _+_, _<_, _≤_}
 use mathlib.Core.Path.{_≡_, refl, sym, ap, _∙_}
-use mathlib.Core.Bool.{Bool, true, false, cond, not, _&&_, _||_, false≢true}
+use mathlib.Core.Bool.{Bool, true, false, cond, not, _||_, false≢true}
 use mathlib.Core.List.{List, [], _∷_, _++_}
 use native.Mathlib.Nat.{zero-add}
 use native.Mathlib.Numerals.{add-one}
 use native.Mathlib.Decide.{decLt}
 use native.Mathlib.Omega.{arith}
 use borrow.Author.Tests.{eq-eqb, ne-eqb, le-ltb, ltb-false}
-use lib.Dec.{leb, ltb}
+use lib.Dec.{ltb}
 use lib.ListN.{length, getD, take, drop, length-take, length-append, drop-of-length-le}
 use lib.Seq.{drop-cons, getD-take}
 use Rattle.laws.specs.Lists.{hits, count, nth}
@@ -23,7 +23,6 @@ use Rattle.table.specs.Format.{procedureKind}
 use Rattle.table.specs.Rows.{rowAt, rowCount, isKind}
 use Rattle.table.specs.Verdicts.{andThen}
 use Rattle.table.specs.Index.{noProcedure, indexOf, indexedRows, procedureAt}
-use Rattle.table.specs.Procedures.{partOf, rowsBetween}
 use Rattle.table.proofs.Laws.{procedure-within}
 use Rattle.program.specs.Program.{isParameter, codeOf, codeVerdict, overProcedures, codePass, procedureIn, targetBelow, jumpsTo, localCount, overLimits, limited}
 
@@ -102,15 +101,6 @@ module _ (t : List ℕ) (p : ℕ) where
   pub procedure-ends : p < indexOf t .procedures → p < 128 → procedureIn (indexOf t) p .end ≤ 2048
   procedure-ends h l = let e = procedure-there h l in omega (arith, procedure-within t (nth (isKind t procedureKind) (indexedRows t) p) (e .0) (e .1) .1)
 
--- a part has at most as many rows as lie between its ends
-pub part-rows : (t : List ℕ) (from to : ℕ) → rowCount (partOf t from to) ≤ to
-unfolding partOf rowsBetween
-part-rows t from to = go (leb from to && leb to (rowCount t))
-  where
-    go : (b : Bool) → rowCount (cond b (take (16 * to - 16 * from) (drop (16 * from) t)) []) ≤ to
-    go true = omega (arith, length-take (16 * to - 16 * from) (drop (16 * from) t))
-    go false = omega arith
-
 -- In the loop of a pass over procedures: procedure p of the index is procedure p of the pass.
 module _ (ix : Index) (size : length (ix .«procedure_entries») ≡ 128) where
   pub passes-past : (p : ℕ) → ix .procedures ≤ p → length (proceduresOf ix) ≤ p
@@ -125,10 +115,6 @@ module _ (ix : Index) (size : length (ix .«procedure_entries») ≡ 128) where
   pub passes-entry : (p : ℕ) → p < ix .procedures → procedureIn ix p ≡ getD (proceduresOf ix) p noProcedure
   unfolding procedureIn
   passes-entry p h = sym (getD-take (ix .procedures) (ix .«procedure_entries») p noProcedure h)
-
--- the end of a procedure in a table's own index
-pub own-ends : (t : List ℕ) (ix : Index) (p : ℕ) → ix ≡ indexOf t → p < ix .procedures → p < 128 → procedureIn ix p .end ≤ 2048
-own-ends t ix p e h l = rw e (procedure-ends t p (rw e at h) l)
 
 -- a verdict on the part that is a procedure's code
 pub on-part : (fault : ProcedureEntry → ℕ → ℕ) (ix : Index) (t c : List ℕ) (own : ProcedureEntry) (v : Verdict) → c ≡ codeOf t own → v ≡ codeVerdict (fault own) (own .code) (rowCount c) → verdictOf fault ix t own ≡ v

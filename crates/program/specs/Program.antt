@@ -140,9 +140,9 @@ isTarget c j = targetBelow c j (rowCount c)
 unfoldable pub targetMarks : List ℕ → List Bool → ℕ → List Bool
 targetMarks c marks n = tabulate (λ (j : ℕ). getD marks j false || targetBelow c j n) (length marks)
 
--- marks that tell the jump targets of the code c
+-- marks that tell the jump targets of the code c, each below their length
 pub record Marked (c : List ℕ) (marks : List Bool) : Type 0 where
-  pub told : (j : ℕ) → j < rowCount c → getD marks j false ≡ isTarget c j
+  pub told : (j : ℕ) → j < length marks → getD marks j false ≡ isTarget c j
 
 -- what the rows pass gives: a procedure has at most 16 locals and 256 instructions
 pub record Sized (t : List ℕ) (ix : Index) : Type 0 where
