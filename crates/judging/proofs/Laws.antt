@@ -35,14 +35,14 @@ module _ (t : List ℕ) where
       go (Accepted n) (Refused x y) q = q
       go (Accepted n) (Accepted m) q = absurd (refused-accepted (sym q))
 
-  pub form-accepted : {n : ℕ} → formOf t ≡ Accepted n → (rowsOf t ≡ Accepted n) × (judgeOf t ≡ inOrder (namesOf ∷ operandsOf ∷ localsOf ∷ leaksOf ∷ []) t)
+  pub form-accepted : {n : ℕ} → formOf t ≡ Accepted n → judgeOf t ≡ inOrder (namesOf ∷ operandsOf ∷ localsOf ∷ leaksOf ∷ []) t
   unfolding formOf judgeOf inOrder passes
   form-accepted {n} e = go (lengthOf t) (rowsOf t) e
     where
-      go : (a b : Verdict) → andThen a b ≡ Accepted n → (b ≡ Accepted n) × (andThen a (andThen b (inOrder (namesOf ∷ operandsOf ∷ localsOf ∷ leaksOf ∷ []) t)) ≡ inOrder (namesOf ∷ operandsOf ∷ localsOf ∷ leaksOf ∷ []) t)
+      go : (a b : Verdict) → andThen a b ≡ Accepted n → andThen a (andThen b (inOrder (namesOf ∷ operandsOf ∷ localsOf ∷ leaksOf ∷ []) t)) ≡ inOrder (namesOf ∷ operandsOf ∷ localsOf ∷ leaksOf ∷ []) t
       go (Refused x y) b q = absurd (refused-accepted q)
       go (Accepted m) (Refused x y) q = absurd (refused-accepted q)
-      go (Accepted m) (Accepted k) q = (q, refl)
+      go (Accepted m) (Accepted k) q = refl
 
 -- a pass with the table's own index
 pub by-index : (pass : Index → List ℕ → Verdict) {t : List ℕ} {ix : Index} {v : Verdict} → ix ≡ indexOf t → v ≡ pass ix t → pass (indexOf t) t ≡ v

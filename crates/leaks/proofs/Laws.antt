@@ -9,18 +9,18 @@ use native.Mathlib.Numerals.{add-one}
 use native.Mathlib.Omega.{arith}
 use lib.Dec.{eqb, ltb}
 use lib.ListN.{length, getD, replicate, length-replicate}
+use Rattle.laws.proofs.First.{clean-if}
 use Rattle.reach.specs.Reach.{Mem, here, there, Inside, mark, push, sweep, iter}
 use Rattle.reach.specs.Search.{Searched, Visit, after, visitOf, visitAll}
 use Rattle.reach.proofs.Laws.{length-mark, length-iter}
 use Rattle.reach.proofs.Search.{visits-none, visits-more, search-from, expand, finish, tail-le, queued-below}
-use Rattle.laws.proofs.First.{clean-if}
 use Rattle.table.specs.declared.Row.{Row}
 use Rattle.table.specs.declared.Verdict.{Verdict}
 use Rattle.table.specs.declared.Verdict.the-variants.{Accepted}
 use Rattle.table.specs.declared.index.Index.{Index}
 use Rattle.table.specs.declared.index.ProcedureEntry.{ProcedureEntry}
 use Rattle.table.specs.Rows.{rowCount, rowAt}
-use Rattle.program.specs.Program.{codeOf, codeVerdict, localCount, parametersEnd}
+use Rattle.program.specs.Program.{codeOf, codeVerdict, localCount, parametersEnd, overLimits, limited}
 use Rattle.program.proofs.Laws.{verdictOf, on-part}
 use Rattle.flow.specs.Steps.{Step, below, nextOf, nexts}
 use Rattle.flow.specs.Places.{nodesOf, succs, reached, within, markMoves, placeMoves, startPlaces, markNodes, operandMarked}
@@ -41,10 +41,6 @@ module _ (nodes : List Bool) (i : ℕ) where
   unfolding someMarked
   some-none = refl
 
-  pub some-next : (n : ℕ) → someMarked nodes i n ≡ false → operandMarked nodes i n ≡ false → someMarked nodes i (n + 1) ≡ false
-  unfolding someMarked
-  some-next n e h = rw (add-one, e, h)
-
   pub some-found : (j n : ℕ) → j < n → operandMarked nodes i j ≡ true → someMarked nodes i n ≡ true
   unfolding someMarked
   some-found j zero h e = absurd (omega arith)
@@ -54,19 +50,21 @@ module _ (nodes : List Bool) (i : ℕ) where
       go (yes q) rest = rw (← q, e) (or-true (someMarked nodes i j))
       go (no q) rest = rw (rest (omega arith))
 
+  pub some-next : (n : ℕ) → someMarked nodes i n ≡ false → operandMarked nodes i n ≡ false → someMarked nodes i (n + 1) ≡ false
+  unfolding someMarked
+  some-next n e h = rw (add-one, e, h)
+
 -- The places where walks start, visited one after the other: those of the first l parameters are left.
 module _ (given : ℕ → Bool) (l : ℕ) (w y : Visit) (rest : w ≡ visitAll y (startPlaces given l)) where
-  pub start-marked : {z : Visit} → 0 < l → given (l - 1) ≡ true → z ≡ visitOf (y .visited) (y .queue) (y .tail) (l - 1 + 1) → w ≡ visitAll z (startPlaces given (l - 1))
+  start-at : 0 < l → w ≡ visitAll y (cond (given (l - 1)) ((l - 1 + 1) ∷ startPlaces given (l - 1)) (startPlaces given (l - 1)))
   unfolding startPlaces
-  start-marked h e q =
-      let s : l ≡ suc (l - 1) = omega arith in
-      rest ∙ ap (λ (k : ℕ). visitAll y (startPlaces given k)) s ∙ rw e (visits-more y (l - 1 + 1) (startPlaces given (l - 1)) q)
+  start-at h = let s : l ≡ suc (l - 1) = omega arith in rest ∙ ap (λ (k : ℕ). visitAll y (startPlaces given k)) s
+
+  pub start-marked : {z : Visit} → 0 < l → given (l - 1) ≡ true → z ≡ visitOf (y .visited) (y .queue) (y .tail) (l - 1 + 1) → w ≡ visitAll z (startPlaces given (l - 1))
+  start-marked h e q = start-at h ∙ rw e (visits-more y (l - 1 + 1) (startPlaces given (l - 1)) q)
 
   pub start-unmarked : 0 < l → given (l - 1) ≡ false → w ≡ visitAll y (startPlaces given (l - 1))
-  unfolding startPlaces
-  start-unmarked h e =
-      let s : l ≡ suc (l - 1) = omega arith in
-      rest ∙ ap (λ (k : ℕ). visitAll y (startPlaces given k)) s ∙ rw e refl
+  start-unmarked h e = start-at h ∙ rw e refl
 
   pub start-last : {z : Visit} → l ≡ 0 → z ≡ visitOf (y .visited) (y .queue) (y .tail) 0 → z ≡ w
   unfolding startPlaces
@@ -91,12 +89,13 @@ pub nodes-after :
 unfolding succs nexts
 nodes-after code shape u e q = rw (q, e)
 
-pub nodes-stepped :
-    (code : List ℕ) (shapes : Shapes) (shape : Shape) (u : ℕ)
+pub visits-after :
+    (code : List ℕ) (shapes : Shapes) (shape : Shape) (u : ℕ) (y : Visit) {x : Visit}
     → shape ≡ getD (shapes .at) (u / 33) noShape
-    → succs 33 (nexts code) (λ (i x : ℕ). within (markMoves (viewStep shape) x)) u ≡ succs 33 (nexts code) (placeMoves (stepsOf shapes)) u
+    → x ≡ visitAll y (succs 33 (nexts code) (λ (i x : ℕ). within (markMoves (viewStep shape) x)) u)
+    → x ≡ visitAll y (succs 33 (nexts code) (placeMoves (stepsOf shapes)) u)
 unfolding succs placeMoves stepsOf
-nodes-stepped code shapes shape u e = rw e
+visits-after code shapes shape u y e h = rw (← e) h
 
 -- The search for where marks come to in the code, whose instructions are seen as these steps.
 module _ (code : List ℕ) (step : ℕ → Step) (given : ℕ → Bool) (params : ℕ) where
@@ -145,14 +144,14 @@ module _ (code : List ℕ) (step : ℕ → Step) (given : ℕ → Bool) (params 
 
 -- Searches in graphs with the same successors of the nodes.
 
+later : (f g : ℕ → List ℕ) (u n : ℕ) → ((w : ℕ) → w < suc n → f (u + w) ≡ g (u + w)) → (w : ℕ) → w < n → f (u + 1 + w) ≡ g (u + 1 + w)
+later f g u n h w l = let z : u + suc w ≡ u + 1 + w = omega arith in rw z at (h (suc w) (omega arith))
+
 push-same : (f g : ℕ → List ℕ) (s : List Bool) (u : ℕ) (acc : List Bool) → ((w : ℕ) → w < length s → f (u + w) ≡ g (u + w)) → push f u s acc ≡ push g u s acc
 unfolding push
 push-same f g [] u acc h = refl
-push-same f g (true ∷ s) u acc h =
-    let e : f u ≡ g u = rw add-zero at (h 0 (omega arith)) in
-    rw e (push-same f g s (u + 1) (mark acc (g u)) (λ w l. let z : u + suc w ≡ u + 1 + w = omega arith in rw z at (h (suc w) (omega arith))))
-push-same f g (false ∷ s) u acc h =
-    push-same f g s (u + 1) acc (λ w l. let z : u + suc w ≡ u + 1 + w = omega arith in rw z at (h (suc w) (omega arith)))
+push-same f g (true ∷ s) u acc h = let e : f u ≡ g u = rw add-zero at (h 0 (omega arith)) in rw e (push-same f g s (u + 1) (mark acc (g u)) (later f g u (length s) h))
+push-same f g (false ∷ s) u acc h = push-same f g s (u + 1) acc (later f g u (length s) h)
 
 pub iter-same : (f g : ℕ → List ℕ) (k : ℕ) (s : List Bool) → ((u : ℕ) → u < length s → f u ≡ g u) → iter f k s ≡ iter g k s
 unfolding iter sweep
@@ -183,7 +182,7 @@ pub fault-is :
 unfolding leakIn stepsOf viewStep
 fault-is nodes shapes shape i e h = rw (← e) (sym h)
 
--- Nothing is given where no mark is.
+-- Where no local is in the set, and no result in the list, nothing is given as marked.
 
 all-false : (n k : ℕ) → getD (replicate n false) k false ≡ false
 all-false zero k = refl
@@ -221,17 +220,21 @@ module _ (t : List ℕ) (ix : Index) (p : ProcedureEntry) where
       → inTrusted t ix p ≡ true
       → c ≡ codeOf t p
       → results ≡ replicate 512 false
-      → v ≡ codeVerdict (leakFrom t ix (givenBy (λ (l : ℕ). false) results) p (marksOf t ix (givenBy (λ (l : ℕ). false) results) p)) (p .code) (rowCount c)
-      → verdictOf (leakFault t ix nothingGiven) ix t p ≡ v
-  unfolding leakFault
+      → v ≡ codeVerdict (limited t (λ (p : ProcedureEntry). leakFrom t ix (givenBy (λ (l : ℕ). false) results) p (marksOf t ix (givenBy (λ (l : ℕ). false) results) p)) p) (p .code) (rowCount c)
+      → verdictOf (limited t (leakFault t ix nothingGiven)) ix t p ≡ v
+  unfolding leakFault limited
   trusted-verdict c results v trusted e q h =
-      on-part (leakFault t ix nothingGiven) ix t c p v e
-      (h ∙ ap (λ (given : Given). codeVerdict (leakFrom t ix given p (marksOf t ix given p)) (p .code) (rowCount c)) (ap (givenBy (λ (l : ℕ). false)) q ∙ none-given)
-      ∙ ap (λ (b : Bool). codeVerdict (λ (i : ℕ). cond b (leakFrom t ix nothingGiven p (marksOf t ix nothingGiven p) i) 0) (p .code) (rowCount c)) (sym trusted))
+      on-part (limited t (leakFault t ix nothingGiven)) ix t c p v e
+      (h ∙ ap (λ (given : Given). codeVerdict (cond (overLimits t p) (λ (i : ℕ). 0) (leakFrom t ix given p (marksOf t ix given p))) (p .code) (rowCount c)) (ap (givenBy (λ (l : ℕ). false)) q ∙ none-given)
+      ∙ ap (λ (b : Bool). codeVerdict (cond (overLimits t p) (λ (i : ℕ). 0) (λ (i : ℕ). cond b (leakFrom t ix nothingGiven p (marksOf t ix nothingGiven p) i) 0)) (p .code) (rowCount c)) (sym trusted))
 
-  pub guest-verdict : inTrusted t ix p ≡ false → verdictOf (leakFault t ix nothingGiven) ix t p ≡ Accepted (rowCount (codeOf t p))
-  unfolding verdictOf leakFault codeVerdict
-  guest-verdict guest = clean-if Accepted _ _ 0 (rowCount (codeOf t p)) (λ j lo hi. rw guest) ∙ ap Accepted (zero-add (rowCount (codeOf t p)))
+  pub guest-verdict : inTrusted t ix p ≡ false → verdictOf (limited t (leakFault t ix nothingGiven)) ix t p ≡ Accepted (rowCount (codeOf t p))
+  unfolding verdictOf leakFault limited codeVerdict
+  guest-verdict guest = clean-if Accepted _ _ 0 (rowCount (codeOf t p)) (λ j lo hi. none j (overLimits t p)) ∙ ap Accepted (zero-add (rowCount (codeOf t p)))
+    where
+      none : (j : ℕ) (b : Bool) → cond {A = ℕ → ℕ} b (λ (i : ℕ). 0) (λ (i : ℕ). cond (inTrusted t ix p) (leakFrom t ix nothingGiven p (marksOf t ix nothingGiven p) i) 0) j ≡ 0
+      none j true = refl
+      none j false = rw guest
 
 -- a procedure with at most 16 locals has at most 16 parameters
 pub parameters-fit : (t : List ℕ) (p : ProcedureEntry) → localCount p ≤ 16 → parameterCount t p ≤ 16

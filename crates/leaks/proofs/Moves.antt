@@ -97,21 +97,21 @@ unfolding freshPlaces
 none-fresh [] h = refl
 none-fresh (m ∷ ms) h = rw (h 0) (none-fresh ms (λ r. h (suc r)))
 
--- The places of the marks that an instruction makes: those of the first r that it pushes are listed in xs.
+-- The places of the marks that an instruction makes: xs are those of the first r operands that it pushes.
 module _ (s : Shape) where
   abbrev marks : List Bool
   marks = tabulate (λ (r : ℕ). getD (s .fresh) r false) (s .gives)
 
-  abbrev pub Listed : List ℕ → ℕ → Type 0
-  Listed xs r = (within (markMoves (viewStep s) 0) ≡ xs ++ within (freshPlaces (drop r marks))) × (length xs ≤ r + 1)
+  abbrev pub Placed : List ℕ → ℕ → Type 0
+  Placed xs r = (within (markMoves (viewStep s) 0) ≡ xs ++ within (freshPlaces (drop r marks))) × (length xs ≤ r + 1)
 
-  pub fresh-start : {xs : List ℕ} → xs ≡ 0 ∷ [] → Listed xs 0
+  pub fresh-start : {xs : List ℕ} → xs ≡ 0 ∷ [] → Placed xs 0
   unfolding within markMoves viewStep
   fresh-start e = rw e (refl, omega arith)
 
-  module _ (xs : List ℕ) (r : ℕ) (before : Listed xs r) where
+  module _ (xs : List ℕ) (r : ℕ) (before : Placed xs r) where
     -- past the last
-    pub fresh-none : s .gives ≤ r → Listed xs (r + 1)
+    pub fresh-none : s .gives ≤ r → Placed xs (r + 1)
     fresh-none h = (
       before .0 ∙ ap (λ (ms : List Bool). xs ++ within (freshPlaces ms)) (drop-of-length-le marks {i = r} (rw length-tabulate h) ∙ sym (drop-of-length-le marks {i = r + 1} (rw length-tabulate (omega arith)))),
       omega arith,
@@ -121,7 +121,7 @@ module _ (s : Shape) where
       next : drop r marks ≡ getD (s .fresh) r false ∷ drop (r + 1) marks
       next = rw add-one (drop-cons marks r false (rw length-tabulate there) ∙ ap (λ (m : Bool). m ∷ drop (suc r) marks) (getD-tabulate _ false (s .gives) r there))
 
-      pub fresh-unmarked : getD (s .fresh) r false ≡ false → Listed xs (r + 1)
+      pub fresh-unmarked : getD (s .fresh) r false ≡ false → Placed xs (r + 1)
       unfolding freshPlaces
       fresh-unmarked e = (before .0 ∙ rw (next, e), omega arith)
 
@@ -129,7 +129,7 @@ module _ (s : Shape) where
         above : length (drop (r + 1) marks) + 17 ≡ place
         above = rw (length-drop, length-tabulate) (omega arith)
 
-        pub fresh-added : {ys : List ℕ} → r < 4 → place < 33 → ys ≡ added xs place → Listed ys (r + 1)
+        pub fresh-added : {ys : List ℕ} → r < 4 → place < 33 → ys ≡ added xs place → Placed ys (r + 1)
         unfolding freshPlaces within added
         fresh-added h l e =
             let full : ltb (length xs) 8 ≡ true = lt-ltb (length xs) 8 (omega arith) in
@@ -138,7 +138,7 @@ module _ (s : Shape) where
               rw length-append (omega arith),
             )
 
-        pub fresh-past : 33 ≤ place → Listed xs (r + 1)
+        pub fresh-past : 33 ≤ place → Placed xs (r + 1)
         unfolding freshPlaces within
         fresh-past h = (before .0 ∙ rw (next, marked, above, le-ltb place 33 h), omega arith)
 

@@ -1,7 +1,7 @@
 -- The leaks pass: refusals 13 and 14 of document 01 ("escape analysis" in the field), in trusted modules only.
-use Prim.Native.Nat.{ℕ, zero, suc, _+_, _*_}
-use mathlib.Core.Bool.{Bool, true, false, cond, _&&_, _||_}
-use mathlib.Core.List.{List, [], _∷_}
+use Prim.Native.Nat.{ℕ, zero, suc}
+use mathlib.Core.Bool.{Bool, false, cond, _&&_, _||_}
+use mathlib.Core.List.{List}
 use lib.Dec.{eqb}
 use lib.ListN.{getD}
 use Rattle.table.specs.declared.Verdict.{Verdict}
@@ -10,11 +10,10 @@ use Rattle.table.specs.declared.index.ProcedureEntry.{ProcedureEntry}
 use Rattle.table.specs.Format.{opCall, opRet}
 use Rattle.table.specs.Rows.{rowCount, rowAt}
 use Rattle.table.specs.Index.{indexOf}
-use Rattle.program.specs.Program.{codeOf, codePass}
+use Rattle.program.specs.Program.{codeOf, codePass, limited}
 use Rattle.flow.specs.Steps.{Step, nexts}
 use Rattle.flow.specs.Places.{markNodes, operandMarked}
 use Rattle.locals.specs.Locals.{parameterCount}
-use Rattle.steps.specs.declared.Shape.{Shape}
 use Rattle.steps.specs.Steps.{Given, nothingGiven, stepAt, viewStep, noShape}
 use Rattle.leaks.specs.declared.Shapes.{Shapes}
 
@@ -52,7 +51,7 @@ module _ (t : List ℕ) (ix : Index) (given : Given) (p : ProcedureEntry) where
 
 -- the leaks pass over a table with a given index, and with its own; nothing is given
 unfoldable pub leaksWith : Index → List ℕ → Verdict
-leaksWith ix t = codePass (leakFault t ix nothingGiven) ix t
+leaksWith ix t = codePass (limited t (leakFault t ix nothingGiven)) ix t
 
 unfoldable pub leaksOf : List ℕ → Verdict
 leaksOf t = leaksWith (indexOf t) t

@@ -1,21 +1,18 @@
 // The leaks pass: refusals 13 and 14.
 ghost use mathlib.Core.Path.{_≡_};
-ghost use mathlib.Core.Bool.{Bool, true, false, cond, _&&_, _||_};
-ghost use mathlib.Core.List.{List, [], _∷_};
+ghost use mathlib.Core.Bool.{true, false, cond, _&&_};
 ghost use Prim.Native.Nat.{ℕ, _+_, _*_, _≤_, _<_};
 ghost use lib.Dec.{eqb};
-ghost use lib.ListN.{length, getD};
+ghost use lib.ListN.{length};
 ghost use Rattle.reach.specs.Search.{after, visitAll};
 ghost use Rattle.table.specs.Rows.{rowAt, rowCount};
-ghost use Rattle.table.specs.Index.{indexOf};
-ghost use Rattle.program.specs.Program.{codeOf, codeVerdict, Sized};
+ghost use Rattle.program.specs.Program.{codeOf, codeVerdict, limited};
 ghost use Rattle.flow.specs.Steps.{nexts};
-ghost use Rattle.flow.specs.Places.{succs, markMoves, within, placeMoves, markNodes, startPlaces};
+ghost use Rattle.flow.specs.Places.{succs, markMoves, within, markNodes, startPlaces};
 ghost use Rattle.spread.specs.Moves.{placesOf};
 ghost use Rattle.locals.specs.Sets.{contains};
-ghost use Rattle.locals.specs.Locals.{parameterCount};
 ghost use Rattle.steps.specs.Steps.{viewStep, stepAt, givenBy};
-ghost use Rattle.leaks.specs.Leaks.{inTrusted, someMarked, marksOf, leakFrom, leakIn, leaksWith, stepsOf};
+ghost use Rattle.leaks.specs.Leaks.{someMarked, marksOf, leakFrom, leakIn, leaksWith, stepsOf};
 use locals::LocalSet;
 use spread::Moves;
 use steps::Shape;
@@ -65,10 +62,10 @@ fn local_moves(s: Shape, x: usize) -> Moves
     if s.opcode == format::CP_LOC {
         return Moves::NONE.add(x as u16).add(17);
     }
-    if s.opcode == format::ST_LOC {
-        return Moves::NONE;
+    if s.opcode != format::ST_LOC {
+        return Moves::NONE.add(x as u16);
     }
-    Moves::NONE.add(x as u16)
+    Moves::NONE
 }
 
 // Where a mark on an operand goes: x is 17 to 32.
@@ -115,14 +112,14 @@ fn expand(
     shape: Shape,
     u: usize,
 ) -> usize
-    requires { ⌜ (rowCount (now code) ≤ 256) × (u < 8448) ⌝ }
+    requires { ⌜ u < 8448 ⌝ }
     ensures { λ r. ⌜ after (now (visited .exit)) (now (queue .exit)) r ≡ visitAll (after (now (visited .entry)) (now (queue .entry)) tail) (succs 33 (nexts (now (code .entry))) (λ (i x : ℕ). within (markMoves (viewStep shape) x)) u) ⌝ }
 {
     let n = code.len() / format::ROW_BYTES;
     let i = u / 33;
     let row = table::row_at(code, i);
     let moves = mark_moves(shape, u % 33);
-    spread::go_on(visited, queue, tail, 33, n, row, i, moves)
+    spread::go_on(visited, queue, tail, 33, n, row, i as u16, moves)
 }
 
 // Visits the places where walks start: the parameters that are given as marked, the highest first, and the bare first instruction.
@@ -256,7 +253,8 @@ fn judge_code(nodes: &[bool], shapes: Shapes, own: ProcedureEntry, n: usize) -> 
     Verdict::Accepted(n)
 }
 
-// One procedure of a trusted module; `nodes` and `queue` are room to work in, `parameters` and `results` have the marks that are given.
+// One procedure of a trusted module; one over a limit is passed over. `nodes` and `queue` are room to work in, `results` has which
+// procedure's results are given as marked.
 fn judge_procedure(
     table: &[u8],
     code: &[u8],
@@ -266,10 +264,13 @@ fn judge_procedure(
     own: ProcedureEntry,
     index: Index,
 ) -> Verdict
-    requires { ⌜ (now code ≡ codeOf (now table) own) × (rowCount (now code) ≤ 256) × (parameterCount (now table) own ≤ 16) × (8448 ≤ length (now nodes)) × (8448 ≤ length (now queue)) ⌝ }
-    ensures { λ r. ⌜ r ≡ codeVerdict (leakFrom (now (table .entry)) index (givenBy (λ (l : ℕ). false) (now (results .entry))) own (marksOf (now (table .entry)) index (givenBy (λ (l : ℕ). false) (now (results .entry))) own)) (own .code) (rowCount (now (code .entry))) ⌝ }
+    requires { ⌜ (now code ≡ codeOf (now table) own) × (8448 ≤ length (now nodes)) × (8448 ≤ length (now queue)) ⌝ }
+    ensures { λ r. ⌜ r ≡ codeVerdict (limited (now (table .entry)) (λ p. leakFrom (now (table .entry)) index (givenBy (λ (l : ℕ). false) (now (results .entry))) p (marksOf (now (table .entry)) index (givenBy (λ (l : ℕ). false) (now (results .entry))) p)) own) (own .code) (rowCount (now (code .entry))) ⌝ }
 {
     let n = code.len() / format::ROW_BYTES;
+    if program::over_limits(table, own) {
+        return Verdict::Accepted(n);
+    }
     if n == 0 {
         return Verdict::Accepted(0);
     }
@@ -294,9 +295,8 @@ fn is_trusted(table: &[u8], row: u16) -> bool
     table::row_at(table, row as usize).a == 1
 }
 
-// The leaks pass over a table with its index, where each procedure has at most 16 locals and 256 instructions.
+// The leaks pass over a table with a given index.
 pub fn leaks_with(table: &[u8], index: Index) -> Verdict
-    requires { ⌜ (index ≡ indexOf (now table)) × Sized (now table) index ⌝ }
     ensures { λ r. ⌜ r ≡ leaksWith index (now (table .entry)) ⌝ }
 {
     let rows = table.len() / format::ROW_BYTES;

@@ -11,7 +11,7 @@ use Rattle.table.specs.declared.index.ProcedureEntry.{ProcedureEntry}
 use Rattle.table.specs.Format.{opMvLoc, opCpLoc, opStLoc, opBorrowLoc, opRet}
 use Rattle.table.specs.Rows.{rowCount, rowAt}
 use Rattle.table.specs.Index.{indexOf}
-use Rattle.program.specs.Program.{codeOf, codePass, localCount, localKind, parametersEnd, isRecord}
+use Rattle.program.specs.Program.{codeOf, codePass, limited, localCount, localKind, parametersEnd, isRecord}
 use Rattle.flow.specs.Steps.{Step, nexts}
 use Rattle.flow.specs.Places.{localNodes, canBeEmpty, canBeFull}
 use Rattle.locals.specs.declared.LocalSet.{LocalSet}
@@ -59,7 +59,7 @@ module _ (t : List ℕ) (p : ProcedureEntry) where
 
 -- the locals pass over a table with a given index, and with its own
 unfoldable pub localsWith : Index → List ℕ → Verdict
-localsWith ix t = codePass (localFault t) ix t
+localsWith ix t = codePass (limited t (localFault t)) ix t
 
 unfoldable pub localsOf : List ℕ → Verdict
 localsOf t = localsWith (indexOf t) t

@@ -6,8 +6,7 @@ ghost use lib.Dec.{eqb};
 ghost use lib.ListN.{length, getD, take, drop};
 ghost use Rattle.reach.specs.Search.{after, visitAll};
 ghost use Rattle.table.specs.Rows.{rowAt, rowCount};
-ghost use Rattle.table.specs.Index.{indexOf};
-ghost use Rattle.program.specs.Program.{isRecord, localKind, localCount, codeOf, codeVerdict, Sized};
+ghost use Rattle.program.specs.Program.{isRecord, localKind, codeOf, codeVerdict, limited};
 ghost use Rattle.flow.specs.Steps.{nexts};
 ghost use Rattle.flow.specs.Places.{succs, localMoves, startStatus};
 ghost use Rattle.locals.specs.Sets.{inserted, contains, meets, those};
@@ -86,7 +85,7 @@ fn expand(
     l: usize,
     u: usize,
 ) -> usize
-    requires { ⌜ (rowCount (now code) ≤ 256) × (u < 512) ⌝ }
+    requires { ⌜ u < 512 ⌝ }
     ensures { λ r. ⌜ after (now (visited .exit)) (now (queue .exit)) r ≡ visitAll (after (now (visited .entry)) (now (queue .entry)) tail) (succs 2 (nexts (now (code .entry))) (localMoves (bareStep (now (code .entry))) l) u) ⌝ }
 {
     let n = code.len() / format::ROW_BYTES;
@@ -100,7 +99,7 @@ fn expand(
         2,
         n,
         row,
-        i,
+        i as u16,
         Moves::NONE.add(y as u16),
     )
 }
@@ -228,15 +227,6 @@ fn needs_full(opcode: u8) -> bool
     }
 }
 
-// How many locals a procedure has.
-fn local_count(p: ProcedureEntry) -> usize
-    ensures { λ r. ⌜ r ≡ localCount p ⌝ }
-{
-    let end = p.results as usize;
-    let start = (p.row as usize) + 1;
-    if start <= end { end - start } else { 0 }
-}
-
 // How many parameters a procedure has.
 fn parameter_count(table: &[u8], p: ProcedureEntry) -> usize
     ensures { λ r. ⌜ r ≡ parameterCount (now (table .entry)) p ⌝ }
@@ -301,7 +291,7 @@ fn judge_code(
     Verdict::Accepted(n)
 }
 
-// One procedure; `nodes` and `queue` are room to work in.
+// One procedure; one over a limit is passed over. `nodes` and `queue` are room to work in.
 fn judge_procedure(
     table: &[u8],
     code: &[u8],
@@ -309,23 +299,25 @@ fn judge_procedure(
     queue: &mut [u16],
     own: ProcedureEntry,
 ) -> Verdict
-    requires { ⌜ (now code ≡ codeOf (now table) own) × (rowCount (now code) ≤ 256) × (localCount own ≤ 16) × (8192 ≤ length (now nodes)) × (512 ≤ length (now queue)) ⌝ }
-    ensures { λ r. ⌜ r ≡ codeVerdict (localFault (now (table .entry)) own) (own .code) (rowCount (now (code .entry))) ⌝ }
+    requires { ⌜ (now code ≡ codeOf (now table) own) × (8192 ≤ length (now nodes)) × (512 ≤ length (now queue)) ⌝ }
+    ensures { λ r. ⌜ r ≡ codeVerdict (limited (now (table .entry)) (localFault (now (table .entry))) own) (own .code) (rowCount (now (code .entry))) ⌝ }
 {
     let n = code.len() / format::ROW_BYTES;
+    if program::over_limits(table, own) {
+        return Verdict::Accepted(n);
+    }
     if n == 0 {
         return Verdict::Accepted(0);
     }
-    let count = local_count(own);
+    let count = program::local_count(own);
     let params = parameter_count(table, own);
     spread_locals(nodes, queue, code, params, count);
     let records = record_locals(table, own, count);
     judge_code(code, nodes, own, count, records)
 }
 
-// The locals pass over a table with its index, where each procedure has at most 16 locals and 256 instructions.
+// The locals pass over a table with a given index.
 pub fn locals_with(table: &[u8], index: Index) -> Verdict
-    requires { ⌜ (index ≡ indexOf (now table)) × Sized (now table) index ⌝ }
     ensures { λ r. ⌜ r ≡ localsWith index (now (table .entry)) ⌝ }
 {
     let rows = table.len() / format::ROW_BYTES;

@@ -6,9 +6,9 @@ use mathlib.Core.List.{List, []}
 use native.Mathlib.Decide.{ℕ-discrete}
 use native.Mathlib.Numerals.{add-one}
 use native.Mathlib.Omega.{arith}
-use borrow.Author.Tests.{eq-eqb, ne-eqb, leb-false}
+use borrow.Author.Tests.{eq-eqb, ne-eqb}
 use lib.Dec.{eqb, leb}
-use lib.ListN.{length, getD, set, replicate, length-set, length-replicate}
+use lib.ListN.{length, getD, set, replicate, length-set}
 use lib.Seq.{getD-set-same, getD-set-other}
 use Rattle.laws.proofs.Lists.{is-tabulate, getD-tabulate, length-tabulate}
 use Rattle.table.specs.declared.Row.{Row}
@@ -27,6 +27,10 @@ or-true : (a b : Bool) → (a || (b || true)) ≡ true
 or-true true b = refl
 or-true false true = refl
 or-true false false = refl
+
+or-right : (a : Bool) → (a || true) ≡ true
+or-right true = refl
+or-right false = refl
 
 or-false : (a b : Bool) → (a || (b || false)) ≡ (a || b)
 or-false true b = refl
@@ -83,24 +87,41 @@ module _ (c : List ℕ) (m₀ marks : List Bool) (i : ℕ) (e : marks ≡ target
   unfolding jumpsTo
   far-jump l y h = rw (ne-eqb (row .b) y (λ z. omega arith)) (and-false (eqb (row .a) 17 || eqb (row .a) 18))
 
--- marks that start empty and are long enough tell the targets
-pub told-marks : (c : List ℕ) (m : List Bool) (k : ℕ) → m ≡ targetMarks c (replicate k false) (rowCount c) → rowCount c ≤ k → Marked c m
+-- marks that start empty tell the targets
+pub told-marks : (c : List ℕ) (m : List Bool) (k : ℕ) → m ≡ targetMarks c (replicate k false) (rowCount c) → Marked c m
 unfolding targetMarks isTarget
-told-marks c m k e h = record { told = λ j l. ap (λ (x : List Bool). getD x j false) e ∙ getD-tabulate _ false (length (replicate k false)) j (rw (length-replicate k false) (omega arith)) ∙ rw (none k j) }
+told-marks c m k e = record { told = λ j l. ap (λ (x : List Bool). getD x j false) e ∙ getD-tabulate _ false (length (replicate k false)) j (rw size at l) ∙ rw (none k j) }
   where
+    size : length m ≡ length (replicate k false)
+    size = ap length e ∙ length-tabulate _ (length (replicate k false))
+
     none : (k j : ℕ) → getD (replicate k false) j false ≡ false
     none ℕ.zero j = refl
     none (ℕ.suc k) ℕ.zero = refl
     none (ℕ.suc k) (ℕ.suc j) = none k j
 
--- the last of a block, from the marks
-pub last-marked : (c : List ℕ) (marks : List Bool) (i : ℕ) (row : Row) → Marked c marks → row ≡ rowAt c i → (leb (rowCount c) (i + 1) || endsBlock (row .a) || getD marks (i + 1) false) ≡ lastOfBlock c i
+-- a search for a jump to instruction j: none before the first instruction, none by one more, found
+module _ (c : List ℕ) (j : ℕ) where
+  pub target-none : targetBelow c j 0 ≡ false
+  unfolding targetBelow
+  target-none = refl
+
+  pub target-next : (i : ℕ) → targetBelow c j i ≡ false → jumpsTo (rowAt c i) j ≡ false → targetBelow c j (i + 1) ≡ false
+  target-next i e h = target-more c j i ∙ rw (e, h)
+
+  pub target-found : (i n : ℕ) → i < n → jumpsTo (rowAt c i) j ≡ true → targetBelow c j n ≡ true
+  unfolding targetBelow
+  target-found i ℕ.zero h e = absurd (omega arith)
+  target-found i (ℕ.suc n) h e = go (ℕ-discrete i n) (λ l. target-found i n l e)
+    where
+      go : Dec (i ≡ n) → (i < n → targetBelow c j n ≡ true) → (targetBelow c j n || jumpsTo (rowAt c n) j) ≡ true
+      go (yes q) rest = rw (← q, e) (or-right (targetBelow c j i))
+      go (no q) rest = rw (rest (omega arith))
+
+-- the last of a block
+pub last-of : (c : List ℕ) (i : ℕ) (row : Row) → row ≡ rowAt c i → (leb (rowCount c) (i + 1) || endsBlock (row .a) || isTarget c (i + 1)) ≡ lastOfBlock c i
 unfolding lastOfBlock
-last-marked c marks i row m q = go (leb (rowCount c) (i + 1)) refl
-  where
-    go : (b : Bool) → leb (rowCount c) (i + 1) ≡ b → (leb (rowCount c) (i + 1) || endsBlock (row .a) || getD marks (i + 1) false) ≡ (leb (rowCount c) (i + 1) || endsBlock (rowAt c i .a) || isTarget c (i + 1))
-    go true z = rw z
-    go false z = rw (z, q, m .told (i + 1) (leb-false (rowCount c) (i + 1) z))
+last-of c i row q = rw q
 
 -- one instruction of procedure own: what the code looks up is what the rules name
 module _ (t : List ℕ) (ix : Index) (own : ProcedureEntry) (i : ℕ) (row : Row) (named : TypeEntry) (callee : ProcedureEntry)

@@ -1,12 +1,10 @@
 // The operands pass: refusals 7 to 10.
 ghost use mathlib.Core.Path.{_≡_};
-ghost use Prim.Native.Nat.{_+_, _/_, _<_, _≤_};
+ghost use Prim.Native.Nat.{_+_, _/_, _<_};
 ghost use mathlib.Core.Bool.{true, false, cond, not, _&&_, _||_};
 ghost use lib.Dec.{eqb, leb};
-ghost use lib.ListN.{getD};
 ghost use Rattle.table.specs.Rows.{rowCount};
-ghost use Rattle.table.specs.Index.{indexOf};
-ghost use Rattle.program.specs.Program.{targetMarks, Marked, codeOf, codeVerdict};
+ghost use Rattle.program.specs.Program.{jumpsTo, isTarget, targetMarks, Marked, codeOf, codeVerdict};
 ghost use Rattle.operands.specs.Operands.{foreign, endsBlock, codeFault, operandsWith, operandsOf};
 use kinds::Stack;
 use table::Row;
@@ -89,10 +87,47 @@ fn ends_block(opcode: u8) -> bool
     opcode <= format::BRANCH_COND
 }
 
-// Whether instruction i of n is the last of its block.
-fn is_last(marks: &[bool], n: usize, opcode: u8, i: usize) -> bool
-    requires { ⌜ i < n ⌝ }
-    ensures { λ r. ⌜ r ≡ (leb n (i + 1) || endsBlock opcode || getD (now (marks .entry)) (i + 1) false) ⌝ }
+// Whether an instruction jumps to instruction j.
+fn jumps_to(row: Row, j: usize) -> bool
+    ensures { λ r. ⌜ r ≡ jumpsTo row j ⌝ }
+{
+    if is_jump(row.a) {
+        return row.b as usize == j;
+    }
+    false
+}
+
+// Whether some instruction of the code jumps to instruction j.
+fn is_target(code: &[u8], j: usize) -> bool
+    ensures { λ r. ⌜ r ≡ isTarget (now (code .entry)) j ⌝ }
+{
+    let n = code.len() / format::ROW_BYTES;
+    let mut i = 0;
+    while i < n {
+        if jumps_to(table::row_at(code, i), j) {
+            return true;
+        }
+        i += 1;
+    }
+    false
+}
+
+// The same, from the marks; no table that is accepted has code past them.
+fn is_marked(code: &[u8], marks: &[bool], j: usize) -> bool
+    requires { ⌜ Marked (now code) (now marks) ⌝ }
+    ensures { λ r. ⌜ r ≡ isTarget (now (code .entry)) j ⌝ }
+{
+    if j < marks.len() {
+        marks[j]
+    } else {
+        is_target(code, j)
+    }
+}
+
+// Whether instruction i of the n of the code is the last of its block.
+fn is_last(code: &[u8], marks: &[bool], n: usize, opcode: u8, i: usize) -> bool
+    requires { ⌜ (i < n) × Marked (now code) (now marks) ⌝ }
+    ensures { λ r. ⌜ r ≡ (leb n (i + 1) || endsBlock opcode || isTarget (now (code .entry)) (i + 1)) ⌝ }
 {
     if n <= i + 1 {
         return true;
@@ -100,11 +135,7 @@ fn is_last(marks: &[bool], n: usize, opcode: u8, i: usize) -> bool
     if ends_block(opcode) {
         return true;
     }
-    if i + 1 < marks.len() {
-        marks[i + 1]
-    } else {
-        false
-    }
+    is_marked(code, marks, i + 1)
 }
 
 // The type that an instruction names: the number is B / 8 for BorrowFld, else B.
@@ -118,7 +149,7 @@ pub fn named_number(opcode: u8, b: u16) -> usize
     }
 }
 
-// The instructions of procedure `own`, whose code is the part `code`; `marks` has its jump targets.
+// The instructions of procedure `own`, whose code is the part `code`; `marks` has its first jump targets.
 fn judge_code(
     table: &[u8],
     code: &[u8],
@@ -144,7 +175,7 @@ fn judge_code(
         if called < format::MAX_PROCEDURES {
             callee = index.procedure_entries[called];
         }
-        let last = is_last(marks, n, row.a, i);
+        let last = is_last(code, marks, n, row.a, i);
         stack = stack.step(table, row, own, named, callee);
         let fault = stack.fault_after(last, is_foreign(table, row, own, named, callee));
         if fault != 0 {
@@ -158,7 +189,7 @@ fn judge_code(
 
 // One procedure.
 fn judge_procedure(table: &[u8], code: &[u8], own: ProcedureEntry, index: Index) -> Verdict
-    requires { ⌜ (now code ≡ codeOf (now table) own) × (rowCount (now code) ≤ 2048) ⌝ }
+    requires { ⌜ now code ≡ codeOf (now table) own ⌝ }
     ensures { λ r. ⌜ r ≡ codeVerdict (codeFault (now (table .entry)) index own) (own .code) (rowCount (now (code .entry))) ⌝ }
 {
     let mut marks = [false; 2048];
@@ -166,9 +197,8 @@ fn judge_procedure(table: &[u8], code: &[u8], own: ProcedureEntry, index: Index)
     judge_code(table, code, &marks, own, index)
 }
 
-// The operands pass over a table with its index.
+// The operands pass over a table with a given index.
 pub fn operands_with(table: &[u8], index: Index) -> Verdict
-    requires { ⌜ index ≡ indexOf (now table) ⌝ }
     ensures { λ r. ⌜ r ≡ operandsWith index (now (table .entry)) ⌝ }
 {
     let rows = table.len() / format::ROW_BYTES;

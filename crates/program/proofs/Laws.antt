@@ -1,16 +1,18 @@
 -- Laws of parameters, of passes over procedures, of jump targets, and of a table's own index.
-use Prim.Native.Nat.{ℕ, zero, suc, _+_, _-_, _*_, _<_, _≤_}
+use Prim.Native.Nat.{ℕ, zero, suc, _+_, _<_, _≤_}
 use mathlib.Core.Path.{_≡_, refl, sym, ap, _∙_}
-use mathlib.Core.Bool.{Bool, true, false, cond, not, _&&_, _||_}
+use mathlib.Core.Bool.{Bool, true, false, cond, not, _||_, false≢true}
 use mathlib.Core.List.{List, [], _∷_, _++_}
+use native.Mathlib.Nat.{zero-add}
 use native.Mathlib.Numerals.{add-one}
 use native.Mathlib.Decide.{decLt}
 use native.Mathlib.Omega.{arith}
-use borrow.Author.Tests.{eq-eqb, ne-eqb}
-use lib.Dec.{leb}
+use borrow.Author.Tests.{eq-eqb, ne-eqb, le-ltb, ltb-false}
+use lib.Dec.{ltb}
 use lib.ListN.{length, getD, take, drop, length-take, length-append, drop-of-length-le}
 use lib.Seq.{drop-cons, getD-take}
 use Rattle.laws.specs.Lists.{hits, count, nth}
+use Rattle.laws.proofs.First.{clean-if}
 use Rattle.laws.proofs.Lists.{getD-snoc-old, getD-snoc-new, entries-at, entryOf-at}
 use Rattle.table.specs.declared.Row.{Row}
 use Rattle.table.specs.declared.Verdict.{Verdict}
@@ -21,9 +23,8 @@ use Rattle.table.specs.Format.{procedureKind}
 use Rattle.table.specs.Rows.{rowAt, rowCount, isKind}
 use Rattle.table.specs.Verdicts.{andThen}
 use Rattle.table.specs.Index.{noProcedure, indexOf, indexedRows, procedureAt}
-use Rattle.table.specs.Procedures.{partOf, rowsBetween}
 use Rattle.table.proofs.Laws.{procedure-within}
-use Rattle.program.specs.Program.{isParameter, codeOf, codeVerdict, overProcedures, codePass, procedureIn, targetBelow, jumpsTo}
+use Rattle.program.specs.Program.{isParameter, codeOf, codeVerdict, overProcedures, codePass, procedureIn, targetBelow, jumpsTo, localCount, overLimits, limited}
 
 module _ (t : List ℕ) (i : ℕ) (r : Row) (e : r ≡ rowAt t i) where
   pub parameter-yes : r .c ≡ 1 → not (isParameter t i) ≡ false
@@ -100,15 +101,6 @@ module _ (t : List ℕ) (p : ℕ) where
   pub procedure-ends : p < indexOf t .procedures → p < 128 → procedureIn (indexOf t) p .end ≤ 2048
   procedure-ends h l = let e = procedure-there h l in omega (arith, procedure-within t (nth (isKind t procedureKind) (indexedRows t) p) (e .0) (e .1) .1)
 
--- a part has at most as many rows as lie between its ends
-pub part-rows : (t : List ℕ) (from to : ℕ) → rowCount (partOf t from to) ≤ to
-unfolding partOf rowsBetween
-part-rows t from to = go (leb from to && leb to (rowCount t))
-  where
-    go : (b : Bool) → rowCount (cond b (take (16 * to - 16 * from) (drop (16 * from) t)) []) ≤ to
-    go true = omega (arith, length-take (16 * to - 16 * from) (drop (16 * from) t))
-    go false = omega arith
-
 -- In the loop of a pass over procedures: procedure p of the index is procedure p of the pass.
 module _ (ix : Index) (size : length (ix .«procedure_entries») ≡ 128) where
   pub passes-past : (p : ℕ) → ix .procedures ≤ p → length (proceduresOf ix) ≤ p
@@ -124,11 +116,31 @@ module _ (ix : Index) (size : length (ix .«procedure_entries») ≡ 128) where
   unfolding procedureIn
   passes-entry p h = sym (getD-take (ix .procedures) (ix .«procedure_entries») p noProcedure h)
 
--- the end of a procedure in a table's own index
-pub own-ends : (t : List ℕ) (ix : Index) (p : ℕ) → ix ≡ indexOf t → p < ix .procedures → p < 128 → procedureIn ix p .end ≤ 2048
-own-ends t ix p e h l = rw e (procedure-ends t p (rw e at h) l)
-
 -- a verdict on the part that is a procedure's code
 pub on-part : (fault : ProcedureEntry → ℕ → ℕ) (ix : Index) (t c : List ℕ) (own : ProcedureEntry) (v : Verdict) → c ≡ codeOf t own → v ≡ codeVerdict (fault own) (own .code) (rowCount c) → verdictOf fault ix t own ≡ v
 unfolding verdictOf
 on-part fault ix t c own v e q = sym (rw e at q)
+
+-- Procedures over a limit and within the limits, and faults that are looked for in the latter only.
+module _ (t : List ℕ) (p : ProcedureEntry) where
+  pub limits-held : overLimits t p ≡ false → (localCount p ≤ 16) × (rowCount (codeOf t p) ≤ 256)
+  unfolding overLimits
+  limits-held e = go (ltb 16 (localCount p)) (ltb 256 (rowCount (codeOf t p))) refl refl e
+    where
+      go : (a b : Bool) → ltb 16 (localCount p) ≡ a → ltb 256 (rowCount (codeOf t p)) ≡ b → (a || b) ≡ false → (localCount p ≤ 16) × (rowCount (codeOf t p) ≤ 256)
+      go true b x y z = absurd (false≢true (sym z))
+      go false true x y z = absurd (false≢true (sym z))
+      go false false x y z = (ltb-false 16 (localCount p) x, ltb-false 256 (rowCount (codeOf t p)) y)
+
+  pub limits-hold : localCount p ≤ 16 → rowCount (codeOf t p) ≤ 256 → overLimits t p ≡ false
+  unfolding overLimits
+  limits-hold h k = rw (le-ltb 16 (localCount p) h, le-ltb 256 (rowCount (codeOf t p)) k)
+
+  module _ (fault : ProcedureEntry → ℕ → ℕ) where
+    pub limited-in : overLimits t p ≡ false → limited t fault p ≡ fault p
+    unfolding limited
+    limited-in e = rw e
+
+    pub limited-out : overLimits t p ≡ true → codeVerdict (limited t fault p) (p .code) (rowCount (codeOf t p)) ≡ Accepted (rowCount (codeOf t p))
+    unfolding limited codeVerdict
+    limited-out e = clean-if Accepted _ _ 0 (rowCount (codeOf t p)) (λ j lo hi. rw e) ∙ ap Accepted (zero-add (rowCount (codeOf t p)))

@@ -1,6 +1,6 @@
 -- A pass over procedures accepts a table if, and only if, no instruction of a procedure is faulty.
 use Prim.Native.Nat.{ℕ, zero, suc, _+_, _<_}
-use mathlib.Core.Path.{_≡_, refl}
+use mathlib.Core.Path.{_≡_, refl, ap₂}
 use mathlib.Core.Bool.{Bool, true, false, cond}
 use mathlib.Core.List.{List, [], _∷_}
 use native.Mathlib.Omega.{arith}
@@ -70,3 +70,16 @@ module _ (fault : ProcedureEntry → ℕ → ℕ) (ix : Index) (t : List ℕ) wh
   pass-clean h = list-clean fault t (proceduresOf ix) (λ q l.
       let b : (q < ix .procedures) × (q < length (ix .«procedure_entries»)) = omega (arith, length-take (ix .procedures) (ix .«procedure_entries»)) in
       rw (getD-take (ix .procedures) (ix .«procedure_entries») q noProcedure (b .0)) (λ i k. h q i (b .0) (b .1) k))
+
+-- passes that look for the same faults in every procedure are the same
+module _ (f g : ProcedureEntry → ℕ → ℕ) (t : List ℕ) where
+  list-same : (ps : List ProcedureEntry) → ((q : ℕ) → q < length ps → f (getD ps q noProcedure) ≡ g (getD ps q noProcedure)) → overProcedures f t ps ≡ overProcedures g t ps
+  unfolding overProcedures
+  list-same [] h = refl
+  list-same (p ∷ ps) h = ap₂ (λ (k : ℕ → ℕ) (rest : Verdict). andThen (codeVerdict k (p .code) (rowCount (codeOf t p))) rest) (h 0 (omega arith)) (list-same ps (λ q l. h (suc q) (omega arith)))
+
+  pub pass-same : (ix : Index) → ((q : ℕ) → q < ix .procedures → f (procedureIn ix q) ≡ g (procedureIn ix q)) → codePass f ix t ≡ codePass g ix t
+  unfolding codePass procedureIn
+  pass-same ix h = list-same (proceduresOf ix) (λ q l.
+      let b : q < ix .procedures = omega (arith, length-take (ix .procedures) (ix .«procedure_entries»)) in
+      rw (getD-take (ix .procedures) (ix .«procedure_entries») q noProcedure b) (h q b))

@@ -1,10 +1,10 @@
 -- What a table declares, as its index and its rows tell it: kinds of values, fields, parameters, locals, results and instructions.
 -- All of it is defined for any bytes; what document 01 says of it holds of tables that the names pass accepts.
 use Prim.Native.Nat.{ℕ, zero, suc, _+_, _-_, _*_, _%_, _<_, _≤_}
-use mathlib.Core.Bool.{Bool, false, not, _&&_, _||_}
+use mathlib.Core.Bool.{Bool, false, cond, not, _&&_, _||_}
 use mathlib.Core.List.{List, [], _∷_}
 use mathlib.Core.Path.{_≡_}
-use lib.Dec.{eqb, leb}
+use lib.Dec.{eqb, leb, ltb}
 use lib.ListN.{getD, take, length}
 use Rattle.laws.specs.First.{firstFault}
 use Rattle.laws.specs.Lists.{find, tabulate}
@@ -117,6 +117,14 @@ overProcedures fault t (p ∷ ps) = andThen (codeVerdict (fault p) (p .code) (ro
 unfoldable pub codePass : (ProcedureEntry → ℕ → ℕ) → Index → List ℕ → Verdict
 codePass fault ix t = overProcedures fault t (take (ix .procedures) (ix .«procedure_entries»))
 
+-- a procedure over the limit on locals or on instructions: the rows pass refuses its table
+unfoldable pub overLimits : List ℕ → ProcedureEntry → Bool
+overLimits t p = ltb maxLocals (localCount p) || ltb maxInstructions (rowCount (codeOf t p))
+
+-- faults that are looked for in the other procedures only
+unfoldable pub limited : List ℕ → (ProcedureEntry → ℕ → ℕ) → ProcedureEntry → ℕ → ℕ
+limited t fault p = cond (overLimits t p) (λ (i : ℕ). 0) (fault p)
+
 -- Jumps: whether some one of the first n instructions of the code c jumps to instruction j, by Branch or BranchCond, reached or not
 unfoldable pub jumpsTo : Row → ℕ → Bool
 jumpsTo row j = (eqb (row .a) opBranch || eqb (row .a) opBranchCond) && eqb (row .b) j
@@ -132,9 +140,9 @@ isTarget c j = targetBelow c j (rowCount c)
 unfoldable pub targetMarks : List ℕ → List Bool → ℕ → List Bool
 targetMarks c marks n = tabulate (λ (j : ℕ). getD marks j false || targetBelow c j n) (length marks)
 
--- marks that tell the jump targets of the code c
+-- marks that tell the jump targets of the code c, each below their length
 pub record Marked (c : List ℕ) (marks : List Bool) : Type 0 where
-  pub told : (j : ℕ) → j < rowCount c → getD marks j false ≡ isTarget c j
+  pub told : (j : ℕ) → j < length marks → getD marks j false ≡ isTarget c j
 
 -- what the rows pass gives: a procedure has at most 16 locals and 256 instructions
 pub record Sized (t : List ℕ) (ix : Index) : Type 0 where

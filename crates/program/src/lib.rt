@@ -1,7 +1,8 @@
 // What a table declares, read through its index.
 ghost use mathlib.Core.Path.{_≡_};
-ghost use Rattle.program.specs.Program.{rowKind, parametersEnd};
+ghost use Rattle.program.specs.Program.{rowKind, localCount, parametersEnd, overLimits};
 use table::Row;
+use table::format;
 use table::index::ProcedureEntry;
 
 // The kind that a field, local or result row declares: four times the type, and the sort.
@@ -24,4 +25,24 @@ pub fn parameters_end(table: &[u8], p: ProcedureEntry) -> usize
         i += 1;
     }
     i
+}
+
+// How many locals a procedure has.
+pub fn local_count(p: ProcedureEntry) -> usize
+    ensures { λ r. ⌜ r ≡ localCount p ⌝ }
+{
+    let end = p.results as usize;
+    let start = (p.row as usize) + 1;
+    if start <= end { end - start } else { 0 }
+}
+
+// Whether a procedure is over the limit on locals or on instructions.
+pub fn over_limits(table: &[u8], p: ProcedureEntry) -> bool
+    ensures { λ r. ⌜ r ≡ overLimits (now (table .entry)) p ⌝ }
+{
+    if format::MAX_LOCALS < local_count(p) {
+        return true;
+    }
+    let code = table::procedures::part(table, p.code as usize, p.end as usize);
+    format::MAX_INSTRUCTIONS < code.len() / format::ROW_BYTES
 }

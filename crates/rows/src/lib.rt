@@ -346,7 +346,7 @@ pub fn length_pass(table: &[u8]) -> Verdict
         return Verdict::Refused(1, 0);
     }
     if n % format::ROW_BYTES != 0 {
-        return Verdict::Refused(1, 0);
+        return Verdict::Refused(1, 0); // the last row is not whole
     }
     if format::ROW_BYTES * format::MAX_ROWS < n {
         return Verdict::Refused(1, 0);

@@ -57,7 +57,7 @@ module _ (m : Moves) (size : length (m .places) ≡ 8) where
     place-end h = sym (rest ∙ rw (places-end k h) (visits-none y))
 
 -- a node's number is small
-pub node-small : (width j : ℕ) → width ≤ 64 → j ≤ 65536 → width * j ≤ 4194304
+pub node-small : (width j : ℕ) → width ≤ 255 → j ≤ 4294967295 → width * j ≤ 1095216660225
 node-small width j h l = mul-le-mul h l
 
 -- an instruction that is there, and one that is not

@@ -1,6 +1,5 @@
 // Breadth-first search over the nodes (instruction, place) of a procedure: the visits that go on from one node.
 ghost use mathlib.Core.Path.{_≡_};
-ghost use Prim.Native.Nat.{_<_, _≤_};
 ghost use mathlib.Core.List.{[], _∷_};
 ghost use Rattle.reach.specs.Search.{after, visitAll};
 ghost use Rattle.flow.specs.Steps.{below, nextOf};
@@ -39,11 +38,10 @@ pub fn visit_places(
     visited: &mut [bool],
     queue: &mut [u16],
     tail: usize,
-    width: usize,
-    j: usize,
+    width: u8,
+    j: u32,
     moves: Moves,
 ) -> usize
-    requires { ⌜ (width ≤ 64) × (j ≤ 65536) ⌝ }
     ensures { λ r. ⌜ after (now (visited .exit)) (now (queue .exit)) r ≡ visitAll (after (now (visited .entry)) (now (queue .entry)) tail) (nodesAt width j (placesOf moves)) ⌝ }
 {
     let mut end = tail;
@@ -53,7 +51,8 @@ pub fn visit_places(
             return end;
         }
         let place = moves.places[k] as usize;
-        end = reach::visit(visited, queue, end, width * j + place);
+        let node = (width as usize) * (j as usize) + place;
+        end = reach::visit(visited, queue, end, node);
         k += 1;
     }
     end
@@ -64,15 +63,14 @@ fn visit_instruction(
     visited: &mut [bool],
     queue: &mut [u16],
     tail: usize,
-    width: usize,
+    width: u8,
     n: usize,
-    j: usize,
+    j: u32,
     moves: Moves,
 ) -> usize
-    requires { ⌜ (width ≤ 64) × (n ≤ 65536) ⌝ }
     ensures { λ r. ⌜ after (now (visited .exit)) (now (queue .exit)) r ≡ visitAll (after (now (visited .entry)) (now (queue .entry)) tail) (nodesOf width (below n (j ∷ [])) (placesOf moves)) ⌝ }
 {
-    if j < n {
+    if (j as usize) < n {
         return visit_places(visited, queue, tail, width, j, moves);
     }
     tail
@@ -83,24 +81,23 @@ pub fn go_on(
     visited: &mut [bool],
     queue: &mut [u16],
     tail: usize,
-    width: usize,
+    width: u8,
     n: usize,
     row: Row,
-    i: usize,
+    i: u16,
     moves: Moves,
 ) -> usize
-    requires { ⌜ (width ≤ 64) × (n ≤ 65536) × (i < 65536) ⌝ }
     ensures { λ r. ⌜ after (now (visited .exit)) (now (queue .exit)) r ≡ visitAll (after (now (visited .entry)) (now (queue .entry)) tail) (nodesOf width (below n (nextOf row i)) (placesOf moves)) ⌝ }
 {
     let opcode = row.a;
-    let target = row.b as usize;
+    let target = row.b as u32;
     if opcode == format::RET {
         return tail;
     }
     if opcode == format::BRANCH {
         return visit_instruction(visited, queue, tail, width, n, target, moves);
     }
-    let end = visit_instruction(visited, queue, tail, width, n, i + 1, moves);
+    let end = visit_instruction(visited, queue, tail, width, n, (i as u32) + 1, moves);
     if opcode == format::BRANCH_COND {
         return visit_instruction(visited, queue, end, width, n, target, moves);
     }

@@ -35,7 +35,7 @@ use Rattle.table.specs.declared.Verdict.the-variants.{Accepted}
 use Rattle.judging.specs.Judging.{AcceptedTable, judgeOf}
 use Rattle.judging.proofs.Accepts.{accepted}
 use Rattle.walks.specs.Checked.{WalkOf, Checked}
-use Rattle.judging.proofs.Sizes.{sized}
+use Rattle.judging.proofs.Sizes.{sized, none-passed-over}
 use Rattle.walks.proofs.Regular.{regular}
 use Rattle.walks.proofs.Follow.{nextBelow}
 use Rattle.walks.proofs.Depth.{Deep, deep, shallow}
@@ -169,12 +169,12 @@ module _ (t : List ℕ) (a : AcceptedTable t) (q : ℕ) (there : q < indexOf t .
   -- its instructions have no fault of locals
   local-fine : (i : ℕ) → i < rowCount (codeOf t (own t q)) → localFault t (own t q) i ≡ 0
   unfolding localsOf localsWith
-  local-fine = pass-fine (localFault t) (indexOf t) t (rowCount t) (a .byLocals) q there entries-long
+  local-fine = pass-fine (localFault t) (indexOf t) t (rowCount t) (sym (none-passed-over t (rowCount t) (a .byRows) (localFault t)) ∙ a .byLocals) q there entries-long
 
   -- and none of leaks
   leak-fine : (i : ℕ) → i < rowCount (codeOf t (own t q)) → leakFault t (indexOf t) nothingGiven (own t q) i ≡ 0
   unfolding leaksOf leaksWith
-  leak-fine = pass-fine (leakFault t (indexOf t) nothingGiven) (indexOf t) t (rowCount t) (a .byLeaks) q there entries-long
+  leak-fine = pass-fine (leakFault t (indexOf t) nothingGiven) (indexOf t) t (rowCount t) (sym (none-passed-over t (rowCount t) (a .byRows) (leakFault t (indexOf t) nothingGiven)) ∙ a .byLeaks) q there entries-long
 
   -- it has instructions
   some : 0 < rowCount (codeOf t (own t q))

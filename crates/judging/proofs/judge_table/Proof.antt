@@ -1,26 +1,19 @@
 -- Each pass that accepts leaves the judgement to the later ones; one that refuses decides it.
-use Prim.Native.Nat.{ℕ}
 use mathlib.Core.Path.{_≡_, sym, _∙_}
 use mathlib.Core.List.{[], _∷_}
-use Rattle.table.specs.declared.Verdict.the-variants.{Accepted}
-use Rattle.rows.specs.Rows.{rowsOf}
 use Rattle.names.specs.Names.{namesOf, namesWith}
 use Rattle.operands.specs.Operands.{operandsOf, operandsWith}
 use Rattle.locals.specs.Locals.{localsOf, localsWith}
 use Rattle.leaks.specs.Leaks.{leaksOf, leaksWith}
 use Rattle.judging.specs.Judging.{judgeOf, inOrder}
 use Rattle.judging.proofs.Laws.{refused-here, accepted-here, form-refused, form-accepted, by-index}
-use Rattle.judging.proofs.Sizes.{sized}
 use borrow.Author.Needs.{needs}
 use Rattle.judging.proofs.judge_table.Statement.{statement}
 use Rattle.judging.proofs.judge_table.Tie as tie
 
 -- what is left of the judgement after each pass that accepts
-rows-accept : (c : tie.After-enum-told) → (n : ℕ) × (rowsOf (c .before .before .before .before .args .table .now) ≡ Accepted n)
-rows-accept c = (_, form-accepted (c .before .before .before .before .args .table .now) (sym (c .before .before .form-pass .ensures) ∙ c .enum-told .given .1) .0)
-
 after-form : (c : tie.After-enum-told) → judgeOf (c .before .before .before .before .args .table .now) ≡ inOrder (namesOf ∷ operandsOf ∷ localsOf ∷ leaksOf ∷ []) (c .before .before .before .before .args .table .now)
-after-form c = form-accepted (c .before .before .before .before .args .table .now) (sym (c .before .before .form-pass .ensures) ∙ c .enum-told .given .1) .1
+after-form c = form-accepted (c .before .before .before .before .args .table .now) (sym (c .before .before .form-pass .ensures) ∙ c .enum-told .given .1)
 
 after-names : (c : tie.After-enum-told2) → judgeOf (c .before .before .before .before .before .before .before .before .args .table .now) ≡ inOrder (operandsOf ∷ localsOf ∷ leaksOf ∷ []) (c .before .before .before .before .before .before .before .before .args .table .now)
 unfolding namesOf
@@ -80,7 +73,7 @@ enum-told-3 : tie.Need-enum-told-3
 enum-told-3 c = search needs
 
 locals-with-requires : tie.Need-locals-with-requires
-locals-with-requires c κs = (c .before .before .before .before .before .before .index-of .ensures, rw (c .before .before .before .before .before .before .index-of .ensures) (sized _ _ (rows-accept (c .before .before .before .before .before .before .before) .1)))
+locals-with-requires c κs = search needs
 
 enum-known-locals : tie.Need-enum-known-locals
 enum-known-locals c = search needs
@@ -93,7 +86,7 @@ enum-told-4 : tie.Need-enum-told-4
 enum-told-4 c = search needs
 
 leaks-with-requires : tie.Need-leaks-with-requires
-leaks-with-requires c κs = (c .before .before .before .before .before .before .before .before .before .index-of .ensures, rw (c .before .before .before .before .before .before .before .before .before .index-of .ensures) (sized _ _ (rows-accept (c .before .before .before .before .before .before .before .before .before .before) .1)))
+leaks-with-requires c κs = search needs
 
 enum-known-leaks : tie.Need-enum-known-leaks
 enum-known-leaks c = search needs

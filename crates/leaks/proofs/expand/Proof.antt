@@ -1,5 +1,6 @@
-use Rattle.leaks.proofs.Laws.{nodes-after}
+use native.Mathlib.Omega.{arith}
 use borrow.Author.Needs.{needs}
+use Rattle.leaks.proofs.Laws.{nodes-after}
 use Rattle.leaks.proofs.expand.Statement.{statement}
 use Rattle.leaks.proofs.expand.Tie as tie
 
@@ -8,6 +9,9 @@ row-at-requires c κs = search needs
 
 mark-moves-requires : tie.Need-mark-moves-requires
 mark-moves-requires c κs = search needs
+
+cast-go-on : tie.Need-cast-go-on
+cast-go-on c = omega arith
 
 go-on-requires : tie.Need-go-on-requires
 go-on-requires c κs = search needs
@@ -24,4 +28,4 @@ returns c = rw (← nodes-after (c .before .before .before .before .before .befo
 pub expand-spec : {M : Type 1} → statement M
 expand-spec =
     tie.close
-    (tie.spec row-at-requires mark-moves-requires go-on-requires same-length same-length-2 returns)
+    (tie.spec row-at-requires mark-moves-requires cast-go-on go-on-requires same-length same-length-2 returns)

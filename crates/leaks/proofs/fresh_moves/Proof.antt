@@ -1,16 +1,17 @@
-use mathlib.Core.Path.{refl, sym, _∙_}
-use lib.ListN.{length-map}
+-- The invariant: the places found are those of the marks among the first r operands pushed.
 use Prim.Native.Nat.{_-_, _≤_}
+use mathlib.Core.Path.{refl, sym, _∙_}
 use mathlib.Core.Logic.{⊎-elim}
-use Rattle.spread.specs.Moves.{placesOf, added}
-use Rattle.leaks.proofs.Moves.{Listed, fresh-start, fresh-none, fresh-unmarked, fresh-added, fresh-past, fresh-end}
-use borrow.Author.Needs.{needs}
 use native.Mathlib.Omega.{arith}
+use borrow.Author.Needs.{needs}
+use lib.ListN.{length-map}
+use Rattle.spread.specs.Moves.{placesOf, added}
+use Rattle.leaks.proofs.Moves.{Placed, fresh-start, fresh-none, fresh-unmarked, fresh-added, fresh-past, fresh-end}
 use Rattle.leaks.proofs.fresh_moves.Statement.{statement}
 use Rattle.leaks.proofs.fresh_moves.Tie as tie
 
 abbrev Inv-loop : tie.InvT-loop
-Inv-loop s moves₀ r₀ moves r = (r ≤ 4) × Listed s (placesOf moves) r
+Inv-loop s moves₀ r₀ moves r = (r ≤ 4) × Placed s (placesOf moves) r
 
 abbrev μ-loop : tie.MeasureT-loop
 μ-loop s moves₀ r₀ moves r = 4 - r

@@ -1,12 +1,13 @@
-use mathlib.Core.Path.{_≡_, refl, sym, ap, _∙_}
-use Rattle.leaks.proofs.Laws.{fault-is}
+-- The invariant: no instruction before instruction i is faulty.
 use Prim.Native.Nat.{ℕ, _+_, _-_, _≤_}
+use mathlib.Core.Path.{_≡_, refl, sym, ap, _∙_}
+use native.Mathlib.Omega.{arith}
+use borrow.Author.Needs.{needs}
 use Rattle.laws.proofs.First.{from, fine, faulty, done, whole}
 use Rattle.table.specs.declared.Verdict.the-variants.{Accepted, Refused}
 use Rattle.program.specs.Program.{codeVerdict}
 use Rattle.leaks.specs.Leaks.{leakIn, stepsOf}
-use borrow.Author.Needs.{needs}
-use native.Mathlib.Omega.{arith}
+use Rattle.leaks.proofs.Laws.{fault-is}
 use Rattle.leaks.proofs.judge_code.Statement.{statement}
 use Rattle.leaks.proofs.judge_code.Tie as tie
 

@@ -1,21 +1,22 @@
+-- The invariant: the procedures before procedure p are accepted.
 use Prim.Native.Nat.{_-_, _≤_}
 use mathlib.Core.Path.{_≡_, refl, sym, _∙_}
 use mathlib.Core.Logic.{⊎-elim}
 use mathlib.Core.Bool.{false}
+use native.Mathlib.Omega.{arith}
+use borrow.Author.Needs.{needs}
 use lib.ListN.{length, getD, replicate, length-map, List·getD-eq-default}
-use Rattle.program.specs.Program.{codeOf, procedureIn}
+use Rattle.program.specs.Program.{codeOf, limited, procedureIn}
 use Rattle.program.proofs.Laws.{passFrom, pass-start, pass-end, pass-refused, pass-on, passes-past, passes-all, passes-at, passes-entry}
 use Rattle.steps.specs.Steps.{nothingGiven}
 use Rattle.leaks.specs.Leaks.{inTrusted, leakFault, leaksWith}
-use Rattle.leaks.proofs.Laws.{trusted-verdict, guest-verdict, parameters-fit}
-use borrow.Author.Needs.{needs}
-use native.Mathlib.Omega.{arith}
+use Rattle.leaks.proofs.Laws.{trusted-verdict, guest-verdict}
 use Rattle.leaks.proofs.leaks_with.Statement.{statement}
 use Rattle.leaks.proofs.leaks_with.Tie as tie
 
 abbrev Inv-loop : tie.InvT-loop
 Inv-loop table index rows results nodes₀ queue₀ p₀ nodes queue p =
-    (p ≤ 128) × (leaksWith index table ≡ passFrom (leakFault table index nothingGiven) index table p) × (results ≡ replicate 512 false) × (length nodes ≡ 8448) × (length queue ≡ 8448)
+    (p ≤ 128) × (leaksWith index table ≡ passFrom (limited table (leakFault table index nothingGiven)) index table p) × (results ≡ replicate 512 false) × (length nodes ≡ 8448) × (length queue ≡ 8448)
 
 abbrev μ-loop : tie.MeasureT-loop
 μ-loop table index rows results nodes₀ queue₀ p₀ nodes queue p = 128 - p
@@ -87,10 +88,7 @@ code-is c = c .part .ensures
 
 judge-procedure-requires : tie.Need-judge-procedure-requires Inv-loop μ-loop
 unfolding procedureIn
-judge-procedure-requires c κs =
-    let sized = c .before .before .before .before .before .before .before .before .before .before .before .before .before .before .before .pre .1 in
-    let here = c .before .before .before .before .before .before .before .before .before .before .before .if1 .left in
-    (code-is (c .before .before .before), rw (code-is (c .before .before .before)) (sized .instructions _ here), parameters-fit _ _ (sized .locals _ here), omega arith, omega arith)
+judge-procedure-requires c κs = (code-is (c .before .before .before), omega arith, omega arith)
 
 enum-known-verdict : tie.Need-enum-known-verdict Inv-loop μ-loop
 enum-known-verdict c = search needs

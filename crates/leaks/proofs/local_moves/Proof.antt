@@ -1,8 +1,8 @@
-use Rattle.leaks.proofs.Moves.{local-other, local-moved, local-copied, local-stored, local-left}
-use Rattle.steps.specs.Steps.{viewStep}
-use Rattle.spread.specs.Moves.{placesOf, added}
 use mathlib.Core.Path.{_∙_}
 use borrow.Author.Needs.{needs}
+use Rattle.spread.specs.Moves.{placesOf, added}
+use Rattle.steps.specs.Steps.{viewStep}
+use Rattle.leaks.proofs.Moves.{local-other, local-moved, local-copied, local-stored, local-left}
 use Rattle.leaks.proofs.local_moves.Statement.{statement}
 use Rattle.leaks.proofs.local_moves.Tie as tie
 
@@ -42,19 +42,19 @@ returns-3 : tie.Need-returns-3
 unfolding placesOf added viewStep
 returns-3 c = c .add4 .ensures ∙ rw (c .before .add3 .ensures) (local-copied (viewStep (c .before .before .before .before .before .before .before .before .args .s)) _ (c .before .before .before .before .before .before .before .before .pre .0) (c .before .before .before .before .before .before .before .before .pre .1) (c .before .before .before .before .before .before .if1 .left) (c .before .before .if3 .taken))
 
-returns-4 : tie.Need-returns-4
-unfolding placesOf added viewStep
-returns-4 c = local-stored (viewStep (c .before .before .before .before .before .before .before .before .args .s)) _ (c .before .before .before .before .before .before .before .before .pre .0) (c .before .before .before .before .before .before .before .before .pre .1) (c .before .before .before .before .before .before .if1 .left) (c .if4 .taken)
-
 cast-add-3 : tie.Need-cast-add-3
 cast-add-3 c = search needs
 
 add-requires-5 : tie.Need-add-requires-5
 add-requires-5 c κs = search needs
 
-returns-5 : tie.Need-returns-5
+returns-4 : tie.Need-returns-4
 unfolding placesOf added viewStep
-returns-5 c = c .add5 .ensures ∙ local-left (viewStep (c .before .before .before .before .before .before .before .before .before .args .s)) _ (c .before .before .before .before .before .before .before .before .before .pre .0) (c .before .before .before .before .before .before .before .before .before .pre .1) (c .before .before .before .before .before .before .before .if1 .left) (c .before .before .before .before .before .if2 .left) (c .before .before .before .if3 .left) (c .before .if4 .left)
+returns-4 c = c .add5 .ensures ∙ local-left (viewStep (c .before .before .before .before .before .before .before .before .before .args .s)) _ (c .before .before .before .before .before .before .before .before .before .pre .0) (c .before .before .before .before .before .before .before .before .before .pre .1) (c .before .before .before .before .before .before .before .if1 .left) (c .before .before .before .before .before .if2 .left) (c .before .before .before .if3 .left) (c .before .if4 .taken)
+
+returns-5 : tie.Need-returns-5
+unfolding placesOf viewStep
+returns-5 c = local-stored (viewStep (c .before .before .before .before .before .before .before .before .args .s)) _ (c .before .before .before .before .before .before .before .before .pre .0) (c .before .before .before .before .before .before .before .before .pre .1) (c .before .before .before .before .before .before .if1 .left) (c .if4 .left)
 
 pub local-moves-spec : {M : Type 1} → statement M
 local-moves-spec =
@@ -71,7 +71,7 @@ local-moves-spec =
     add-requires-3
     add-requires-4
     returns-3
-    returns-4
     cast-add-3
     add-requires-5
+    returns-4
     returns-5)

@@ -1,8 +1,8 @@
-use Rattle.steps.specs.Steps.{viewStep}
-use Rattle.flow.specs.Places.{within, markMoves}
-use mathlib.Core.Path.{sym, ap, _∙_}
 use Prim.Native.Nat.{ℕ}
+use mathlib.Core.Path.{sym, ap, _∙_}
 use borrow.Author.Needs.{needs}
+use Rattle.flow.specs.Places.{within, markMoves}
+use Rattle.steps.specs.Steps.{viewStep}
 use Rattle.leaks.proofs.mark_moves.Statement.{statement}
 use Rattle.leaks.proofs.mark_moves.Tie as tie
 

@@ -1,10 +1,10 @@
 use Prim.Native.Nat.{ℕ, _+_, _-_}
 use mathlib.Core.Logic.{inl, inr}
 use mathlib.Core.Path.{ap, _∙_}
+use borrow.Author.Needs.{needs}
 use Rattle.spread.specs.Moves.{placesOf, added}
 use Rattle.steps.specs.Steps.{viewStep}
 use Rattle.leaks.proofs.Moves.{operand-stored, operand-lost, operand-within, operand-past, length-fresh}
-use borrow.Author.Needs.{needs}
 use Rattle.leaks.proofs.operand_moves.Statement.{statement}
 use Rattle.leaks.proofs.operand_moves.Tie as tie
 

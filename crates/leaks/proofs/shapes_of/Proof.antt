@@ -1,14 +1,15 @@
+-- The invariant: the first i instructions are listed.
 use Prim.Native.Nat.{ℕ, _-_, _≤_}
 use mathlib.Core.Path.{_≡_, refl, sym, ap, _∙_}
 use mathlib.Core.Logic.{⊎-elim}
 use mathlib.Core.Bool.{false}
+use native.Mathlib.Omega.{arith}
+use borrow.Author.Needs.{needs}
 use lib.ListN.{length, length-map, List·getD-eq-default}
 use Rattle.program.specs.Program.{typeIn, procedureIn}
 use Rattle.steps.specs.Steps.{stepAt, givenBy}
 use Rattle.leaks.specs.Leaks.{stepsOf}
 use Rattle.leaks.proofs.Lists.{Listed, listed-more, step-is}
-use borrow.Author.Needs.{needs}
-use native.Mathlib.Omega.{arith}
 use Rattle.leaks.proofs.shapes_of.Statement.{statement}
 use Rattle.leaks.proofs.shapes_of.Tie as tie
 

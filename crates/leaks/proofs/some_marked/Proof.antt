@@ -1,11 +1,12 @@
+-- The invariant: none of the first j operands is marked.
 use Prim.Native.Nat.{_-_, _≤_}
-use lib.ListN.{List·getD-eq-default}
 use mathlib.Core.Logic.{⊎-elim}
 use mathlib.Core.Path.{_≡_, sym}
 use mathlib.Core.Bool.{false}
+use native.Mathlib.Omega.{arith}
+use lib.ListN.{List·getD-eq-default}
 use Rattle.leaks.specs.Leaks.{someMarked}
 use Rattle.leaks.proofs.Laws.{some-none, some-next, some-found}
-use native.Mathlib.Omega.{arith}
 use Rattle.leaks.proofs.some_marked.Statement.{statement}
 use Rattle.leaks.proofs.some_marked.Tie as tie
 

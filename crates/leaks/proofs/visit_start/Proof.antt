@@ -1,12 +1,13 @@
+-- The invariant: the places of the parameters from l on are visited.
 use Prim.Native.Nat.{_≤_}
-use lib.ListN.{length}
 use mathlib.Core.Path.{_≡_, refl, sym, _∙_}
-use Rattle.locals.specs.Sets.{contains}
-use Rattle.flow.specs.Places.{startPlaces}
-use Rattle.reach.specs.Search.{after, visitAll}
-use Rattle.leaks.proofs.Laws.{start-marked, start-unmarked, start-last}
-use borrow.Author.Needs.{needs}
 use native.Mathlib.Omega.{arith}
+use borrow.Author.Needs.{needs}
+use lib.ListN.{length}
+use Rattle.reach.specs.Search.{after, visitAll}
+use Rattle.flow.specs.Places.{startPlaces}
+use Rattle.locals.specs.Sets.{contains}
+use Rattle.leaks.proofs.Laws.{start-marked, start-unmarked, start-last}
 use Rattle.leaks.proofs.visit_start.Statement.{statement}
 use Rattle.leaks.proofs.visit_start.Tie as tie
 

@@ -12,6 +12,9 @@ row-at-requires c κs = search needs
 status-after-requires : tie.Need-status-after-requires
 status-after-requires c κs = search needs
 
+cast-go-on : tie.Need-cast-go-on
+cast-go-on c = omega arith
+
 cast-add : tie.Need-cast-add
 cast-add c = let e = c .before .before .status-after .ensures in omega (arith, e, after-below (c .before .before .before .row-at .result) (c .before .before .before .before .before .before .before .args .l) (c .before .before .before .before .before .before .before .args .u % 2) (omega arith))
 
@@ -37,6 +40,7 @@ expand-spec =
     (tie.spec
     row-at-requires
     status-after-requires
+    cast-go-on
     cast-add
     add-requires
     go-on-requires

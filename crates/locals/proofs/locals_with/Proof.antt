@@ -1,7 +1,7 @@
 -- The invariant: the procedures before procedure p are accepted.
 use Rattle.locals.specs.Locals.{localsWith, localFault}
 use Rattle.program.proofs.Laws.{passFrom, pass-start, pass-end, pass-refused, pass-on, passes-past, passes-all, passes-at, passes-entry, on-part}
-use Rattle.program.specs.Program.{codeOf, procedureIn}
+use Rattle.program.specs.Program.{codeOf, limited, procedureIn}
 use lib.ListN.{length, length-map}
 use Prim.Native.Nat.{_-_, _≤_}
 use mathlib.Core.Path.{_≡_, refl, sym, _∙_}
@@ -12,7 +12,7 @@ use Rattle.locals.proofs.locals_with.Tie as tie
 
 abbrev Inv-loop : tie.InvT-loop
 Inv-loop table index rows nodes₀ queue₀ p₀ nodes queue p =
-    (p ≤ 128) × (localsWith index table ≡ passFrom (localFault table) index table p) × (length nodes ≡ 8192) × (length queue ≡ 512)
+    (p ≤ 128) × (localsWith index table ≡ passFrom (limited table (localFault table)) index table p) × (length nodes ≡ 8192) × (length queue ≡ 512)
 
 abbrev μ-loop : tie.MeasureT-loop
 μ-loop table index rows nodes₀ queue₀ p₀ nodes queue p = 128 - p
@@ -56,10 +56,7 @@ slice-aggregate-judge-procedure-2 c = search needs
 
 judge-procedure-requires : tie.Need-judge-procedure-requires Inv-loop μ-loop
 unfolding procedureIn
-judge-procedure-requires c κs =
-    let sized = c .before .before .before .before .before .before .before .before .before .before .pre .1 in
-    let here = c .before .before .before .before .before .before .if1 .left in
-    (code-is (c .before .before), rw (code-is (c .before .before)) (sized .instructions _ here), sized .locals _ here, omega arith, omega arith)
+judge-procedure-requires c κs = (code-is (c .before .before), omega arith, omega arith)
 
 enum-known-verdict : tie.Need-enum-known-verdict Inv-loop μ-loop
 enum-known-verdict c = search needs

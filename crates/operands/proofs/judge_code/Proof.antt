@@ -1,6 +1,6 @@
 use mathlib.Core.List.{List}
 use Rattle.kinds.specs.Kinds.{topFirst}
-use Rattle.operands.proofs.Laws.{last-marked, after-here, fault-here, next-here}
+use Rattle.operands.proofs.Laws.{last-of, after-here, fault-here, next-here}
 use Rattle.operands.specs.Operands.{codeFault, kindsBefore, after, lastOfBlock}
 use Rattle.kinds.specs.Kinds.{view}
 use Rattle.program.specs.Program.{typeIn, procedureIn, codeVerdict, codeOf}
@@ -52,7 +52,7 @@ element-copy-out-callee : tie.Need-element-copy-out-callee Inv-loop μ-loop
 element-copy-out-callee c = omega arith
 
 is-last-requires : tie.Need-is-last-requires Inv-loop μ-loop
-is-last-requires c κs = omega arith
+is-last-requires c κs = search needs
 
 step-requires : tie.Need-step-requires Inv-loop μ-loop
 step-requires c κs = search needs
@@ -92,7 +92,7 @@ kinds-are : (c : tie.After-fault-after Inv-loop μ-loop) → view (c .before .be
 kinds-are c = c .before .before .step .ensures ∙ after-here _ _ _ _ _ _ _ (row-is c) (type-is c) (callee-is (c .before .before .before .before)) _ ∙ ap (after _ _ _ _) (c .before .before .before .before .before .before .before .before .before .before .loop .inv .1)
 
 last-is : (c : tie.After-fault-after Inv-loop μ-loop) → c .before .before .before .is-last .result ≡ lastOfBlock (codeOf (c .before .before .before .before .before .before .before .before .before .before .before .before .before .before .args .table .now) (c .before .before .before .before .before .before .before .before .before .before .before .before .before .before .args .own)) (c .before .before .before .before .before .before .before .before .before .before .loop .i)
-last-is c = c .before .before .before .is-last .ensures ∙ last-marked _ _ _ _ (c .before .before .before .before .before .before .before .before .before .before .before .before .before .before .pre .1) (c .before .before .before .before .before .before .before .before .row-at .ensures) ∙ ap (λ (l : List ℕ). lastOfBlock l (c .before .before .before .before .before .before .before .before .before .before .loop .i)) (c .before .before .before .before .before .before .before .before .before .before .before .before .before .before .pre .0)
+last-is c = c .before .before .before .is-last .ensures ∙ last-of _ _ _ (c .before .before .before .before .before .before .before .before .row-at .ensures) ∙ ap (λ (l : List ℕ). lastOfBlock l (c .before .before .before .before .before .before .before .before .before .before .loop .i)) (c .before .before .before .before .before .before .before .before .before .before .before .before .before .before .pre .0)
 
 fault-is : (c : tie.After-fault-after Inv-loop μ-loop) → codeFault (c .before .before .before .before .before .before .before .before .before .before .before .before .before .before .args .table .now) (c .before .before .before .before .before .before .before .before .before .before .before .before .before .before .args .t5) (c .before .before .before .before .before .before .before .before .before .before .before .before .before .before .args .own) (c .before .before .before .before .before .before .before .before .before .before .loop .i) ≡ c .fault-after .result
 fault-is c = fault-here _ _ _ _ _ _ _ (row-is c) (type-is c) (callee-is (c .before .before .before .before)) _ (kinds-are c) (last-is c) (c .before .is-foreign .ensures) ∙ sym (c .fault-after .ensures)

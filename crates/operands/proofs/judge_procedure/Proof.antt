@@ -13,7 +13,7 @@ slice-aggregate-judge-code : tie.Need-slice-aggregate-judge-code
 slice-aggregate-judge-code c = search needs
 
 judge-code-requires : tie.Need-judge-code-requires
-judge-code-requires c κs = (c .before .before .before .before .before .before .pre .0, told-marks _ _ 2048 (c .before .before .mark-targets .ensures) (c .before .before .before .before .before .before .pre .1))
+judge-code-requires c κs = (c .before .before .before .before .before .before .pre, told-marks _ _ 2048 (c .before .before .mark-targets .ensures))
 
 returns : tie.Need-returns
 returns c = search needs

@@ -1,5 +1,5 @@
 use Rattle.operands.specs.Operands.{operandsWith, codeFault}
-use Rattle.program.proofs.Laws.{passFrom, pass-start, pass-end, pass-refused, pass-on, passes-past, passes-all, passes-at, passes-entry, on-part, own-ends, part-rows}
+use Rattle.program.proofs.Laws.{passFrom, pass-start, pass-end, pass-refused, pass-on, passes-past, passes-all, passes-at, passes-entry, on-part}
 use Rattle.program.specs.Program.{codeOf, procedureIn}
 use lib.ListN.{length, length-map}
 use mathlib.Core.Path.{_≡_, sym, _∙_}
@@ -47,7 +47,7 @@ part-requires c κs = search needs
 
 judge-procedure-requires : tie.Need-judge-procedure-requires Inv-loop μ-loop
 unfolding procedureIn
-judge-procedure-requires c κs = (code-is c, rw (c .part .ensures) (let l = own-ends _ _ (c .before .before .before .before .before .before .loop .p) (c .before .before .before .before .before .before .before .before .pre) (c .before .before .before .before .if1 .left) (c .before .before .before .before .before .loop-test .taken) in omega (arith, part-rows (c .before .before .before .before .before .before .before .before .args .table .now) (procedureIn (c .before .before .before .before .before .before .before .before .args .t2) (c .before .before .before .before .before .before .loop .p) .code) (procedureIn (c .before .before .before .before .before .before .before .before .args .t2) (c .before .before .before .before .before .before .loop .p) .end))))
+judge-procedure-requires c κs = code-is c
 
 enum-known-verdict : tie.Need-enum-known-verdict Inv-loop μ-loop
 enum-known-verdict c = search needs

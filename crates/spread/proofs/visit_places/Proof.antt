@@ -43,13 +43,13 @@ element-copy-out-place c = omega arith
 cast-place : tie.Need-cast-place Inv-loop μ-loop
 cast-place c = search needs
 
-mul-visit : tie.Need-mul-visit Inv-loop μ-loop
-mul-visit c = omega (arith, node-small (c .before .before .before .before .before .before .before .before .args .width) (c .before .before .before .before .before .before .before .before .args .j) (omega arith) (omega arith))
+mul-node : tie.Need-mul-node Inv-loop μ-loop
+mul-node c = omega (arith, node-small (c .before .before .before .before .before .before .args .width) (c .before .before .before .before .before .before .args .j) (omega arith) (omega arith))
 
-add-visit : tie.Need-add-visit Inv-loop μ-loop
-add-visit c =
-    let small : Fits w16 (getD (c .before .before .before .before .before .before .before .before .args .t6 .places) (c .before .before .before .before .before .loop .k) 0) = search needs in
-    omega (arith, node-small (c .before .before .before .before .before .before .before .before .args .width) (c .before .before .before .before .before .before .before .before .args .j) (omega arith) (omega arith))
+add-node : tie.Need-add-node Inv-loop μ-loop
+add-node c =
+    let small : Fits w16 (getD (c .before .before .before .before .before .before .args .t6 .places) (c .before .before .before .loop .k) 0) = search needs in
+    omega (arith, node-small (c .before .before .before .before .before .before .args .width) (c .before .before .before .before .before .before .args .j) (omega arith) (omega arith))
 
 visit-requires : tie.Need-visit-requires Inv-loop μ-loop
 visit-requires c κs = search needs
@@ -92,8 +92,8 @@ visit-places-spec =
     mul-place
     element-copy-out-place
     cast-place
-    mul-visit
-    add-visit
+    mul-node
+    add-node
     visit-requires
     add-k
     loop-less

@@ -1,7 +1,7 @@
-use Rattle.steps.specs.Steps.{borrowsGuarded}
-use Rattle.program.specs.Program.{fieldRow}
 use borrow.Author.Tests.{ne-eqb}
 use borrow.Author.Needs.{needs}
+use Rattle.program.specs.Program.{fieldRow}
+use Rattle.steps.specs.Steps.{borrowsGuarded}
 use Rattle.steps.proofs.borrows_guarded.Statement.{statement}
 use Rattle.steps.proofs.borrows_guarded.Tie as tie
 

@@ -1,9 +1,9 @@
-use Rattle.kinds.proofs.Laws.{above}
-use Rattle.kinds.specs.Effects.{effects}
-use Rattle.program.specs.Program.{fieldKinds, parameterKinds, resultKinds}
-use Rattle.steps.proofs.Laws.{length-kinds, listed, unlisted}
 use mathlib.Core.Path.{refl, sym, _∙_}
 use borrow.Author.Needs.{needs}
+use Rattle.program.specs.Program.{fieldKinds, parameterKinds, resultKinds}
+use Rattle.kinds.proofs.Laws.{above}
+use Rattle.kinds.specs.Effects.{effects}
+use Rattle.steps.proofs.Laws.{length-kinds, listed, unlisted}
 use Rattle.steps.proofs.counts_of.Statement.{statement}
 use Rattle.steps.proofs.counts_of.Tie as tie
 

@@ -1,9 +1,9 @@
-use Rattle.steps.proofs.Laws.{four}
 use Prim.Native.Nat.{ℕ, _+_, _*_}
 use mathlib.Core.Bool.{false}
-use lib.ListN.{getD}
 use borrow.Author.Tests.{ne-eqb}
 use borrow.Author.Needs.{needs}
+use lib.ListN.{getD}
+use Rattle.steps.proofs.Laws.{four}
 use Rattle.steps.proofs.fresh_of.Statement.{statement}
 use Rattle.steps.proofs.fresh_of.Tie as tie
 

@@ -1,6 +1,6 @@
-use Rattle.steps.proofs.Laws.{parameters-few}
 use native.Mathlib.Omega.{arith}
 use borrow.Author.Needs.{needs}
+use Rattle.steps.proofs.Laws.{parameters-few}
 use Rattle.steps.proofs.parameters_of.Statement.{statement}
 use Rattle.steps.proofs.parameters_of.Tie as tie
 

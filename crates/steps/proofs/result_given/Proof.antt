@@ -1,7 +1,7 @@
-use lib.ListN.{List·getD-eq-default}
 use mathlib.Core.Bool.{false}
 use mathlib.Core.Path.{sym}
 use borrow.Author.Needs.{needs}
+use lib.ListN.{List·getD-eq-default}
 use Rattle.steps.proofs.result_given.Statement.{statement}
 use Rattle.steps.proofs.result_given.Tie as tie
 

@@ -1,5 +1,5 @@
-use Rattle.steps.proofs.Laws.{shape-is}
 use borrow.Author.Needs.{needs}
+use Rattle.steps.proofs.Laws.{shape-is}
 use Rattle.steps.proofs.shape_of.Statement.{statement}
 use Rattle.steps.proofs.shape_of.Tie as tie
 

@@ -1,9 +1,9 @@
 use Rattle.program.specs.Program.{localCount}
 use mathlib.Core.Path.{refl}
 use native.Mathlib.Omega.{arith}
 use borrow.Author.Needs.{needs}
-use Rattle.locals.proofs.local_count.Statement.{statement}
-use Rattle.locals.proofs.local_count.Tie as tie
+use Rattle.program.proofs.local_count.Statement.{statement}
+use Rattle.program.proofs.local_count.Tie as tie
 
 cast-end : tie.Need-cast-end
 cast-end c = search needs
