@@ -1,6 +1,6 @@
 -- What the rows pass counts above a row, and what its limits and its tests of values give: procedures below 128, at most 8 fields, the opcode of an instruction, Op's operand, the sort of a field.
-use Prim.Native.Nat.{ℕ, zero, suc, _+_, _<_, _≤_}
-use mathlib.Core.Path.{_≡_, refl, sym, _∙_}
+use Prim.Native.Nat.{ℕ, zero, suc, _+_, _-_, _<_, _≤_}
+use mathlib.Core.Path.{_≡_, refl, sym, ap, _∙_}
 use mathlib.Core.Bool.{Bool, true, false, not, _&&_, _||_}
 use mathlib.Core.List.{List, []}
 use mathlib.Mathlib.Data.Bool.Basic.{or-eq-false-eq-eq-false-and-eq-false as neither}
@@ -14,10 +14,10 @@ use lib.ListN.{getD, List·getD-eq-default}
 use Rattle.laws.specs.Lists.{member, every, count, nth}
 use Rattle.laws.proofs.Lists.{every-at, count-zero, count-yes, count-no}
 use Rattle.table.specs.declared.Row.{Row}
-use Rattle.table.specs.Format.{typeKind, fieldKind, procedureKind, localKind, instructionKind, opOp}
+use Rattle.table.specs.Format.{typeKind, fieldKind, procedureKind, localKind, resultKind, instructionKind, opOp}
 use Rattle.table.specs.Rows.{rowCount, rowAt, kindAt, isKind}
-use Rattle.table.specs.Index.{indexOf, indexedRows}
-use Rattle.table.proofs.Laws.{type-within, type-fields}
+use Rattle.table.specs.Index.{indexOf, indexedRows, resultsStart, codeStart, codeEnd}
+use Rattle.table.proofs.Laws.{type-within, type-fields, procedure-parts, procedure-locals, procedure-results}
 use Rattle.program.specs.Program.{typeIn, fieldCount}
 use Rattle.program.proofs.Laws.{nth-below}
 use Rattle.rows.specs.declared.Above.{Above}
@@ -43,6 +43,14 @@ module _ (k : ℕ) (number : Above → ℕ) (carried : (s : Above) (row : Row) �
       let q = h (a + d) (omega arith) (omega arith) in
       let z : number (aboveAt t (a + d + 1)) ≡ number (aboveAt t (a + d)) + 1 = number-next (a + d) ∙ rw (← q, eq-eqb k k refl) in
       rw s (omega (arith, z, ih))
+
+  -- over rows that leave it, it stays
+  number-still : (kind a d : ℕ) → ((n : ℕ) → countBelow k kind n ≡ n) → ((j : ℕ) → a ≤ j → j < a + d → kind ≡ kindAt t j) → number (aboveAt t (a + d)) ≡ number (aboveAt t a)
+  number-still kind a zero c h = simp add-zero
+  number-still kind a (suc d) c h =
+      let s : a + suc d ≡ a + d + 1 = omega arith in
+      let q = h (a + d) (omega arith) (omega arith) in
+      rw s (number-next (a + d) ∙ rw (← q, c) (number-still kind a d c (λ j lo hi. h j lo (omega arith))))
 
   -- where rows of this kind are numbered through the table, it is a count of rows
   number-count : number (aboveAt t 0) ≡ 0 → ((kind : ℕ) → member k (getD owned kind []) ≡ false) → (i : ℕ) → number (aboveAt t i) ≡ count (isKind t k) i
@@ -111,6 +119,30 @@ module _ (t : List ℕ) (fine : (i : ℕ) → i < rowCount t → faultAt t i ≡
           let up = number-up fieldKind (λ (s : Above). s .fields) (λ s row. refl) t (r + 1) 8 (λ j lo hi. type-fields t r {j = j} (omega arith) (omega (arith, e))) in
           let m = field-low (r + 1 + 8) (omega (arith, e, w)) (type-fields t r {j = r + 1 + 8} (omega arith) e) in
           absurd (omega (arith, z, up, m))
+      go (no l) = omega arith
+
+  -- a result is below its limit
+  result-low : (i : ℕ) → i < rowCount t → 6 ≡ kindAt t i → aboveAt t i .results < 4
+  unfolding countOf limits kindAt
+  result-low i h q = rw (← q) at (low (aboveAt t i) (rowAt t i) (tests i h .0))
+
+  -- a procedure at row i has at most 4 results
+  pub results-few : (i : ℕ) → i < indexedRows t → procedureKind ≡ kindAt t i → codeStart t i - resultsStart t i ≤ 4
+  unfolding belowRow countBelow owned member
+  results-few i h k = go (decLt (resultsStart t i + 4) (codeStart t i))
+    where
+      parts : (i < resultsStart t i) × (resultsStart t i ≤ codeStart t i) × (codeStart t i ≤ codeEnd t i) × (codeEnd t i ≤ indexedRows t)
+      parts = procedure-parts t i h
+
+      go : Dec (resultsStart t i + 4 < codeStart t i) → codeStart t i - resultsStart t i ≤ 4
+      go (yes l) =
+          let e : i + 1 + (resultsStart t i - (i + 1)) ≡ resultsStart t i = omega (arith, parts) in
+          let z : aboveAt t (i + 1) .results ≡ 0 = number-next resultKind (λ (s : Above). s .results) (λ s row. refl) t i ∙ rw (← k) refl in
+          let still = number-still resultKind (λ (s : Above). s .results) (λ s row. refl) t 5 (i + 1) (resultsStart t i - (i + 1)) (λ n. refl) (λ j lo hi. procedure-locals t i (omega arith) (omega (arith, e))) in
+          let at-start : aboveAt t (resultsStart t i) .results ≡ 0 = ap (λ (j : ℕ). aboveAt t j .results) (sym e) ∙ still ∙ z in
+          let up = number-up resultKind (λ (s : Above). s .results) (λ s row. refl) t (resultsStart t i) 4 (λ j lo hi. procedure-results t i lo (omega arith)) in
+          let m = result-low (resultsStart t i + 4) (omega (arith, parts)) (procedure-results t i (omega arith) l) in
+          absurd (omega (arith, at-start, up, m))
       go (no l) = omega arith
 
 -- where none of four holds, neither the first nor the last does

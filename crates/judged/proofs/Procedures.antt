@@ -1,23 +1,28 @@
 -- What an accepted table gives for each procedure: it has code, and its locals and parameters are declared by its rows, the parameters first.
-use Prim.Native.Nat.{ℕ, _+_, _-_, _<_}
-use mathlib.Core.Path.{_≡_}
+use Prim.Native.Nat.{ℕ, _+_, _-_, _<_, _≤_}
+use mathlib.Core.Path.{_≡_, sym}
 use mathlib.Core.Bool.{not}
 use mathlib.Core.List.{List, _++_}
 use mathlib.Core.Option.{some}
+use native.Mathlib.Omega.{arith}
+use borrow.Author.Tests.{eqb-true}
 use lib.ListN.{length, getElem? as nth}
+use Rattle.laws.specs.Lists as Lists
 use Rattle.laws.proofs.Lists.{find-within}
 use Rattle.table.specs.declared.index.ProcedureEntry.{ProcedureEntry}
-use Rattle.table.specs.Rows.{rowCount}
-use Rattle.table.specs.Index.{indexOf}
-use Rattle.program.specs.Program.{kindsOf, isParameter, localCount, localKind, parametersEnd, parameterKinds}
+use Rattle.table.specs.Format.{procedureKind}
+use Rattle.table.specs.Rows.{rowCount, kindAt, isKind}
+use Rattle.table.specs.Index.{indexOf, indexedRows, procedureAt, resultsStart, codeStart}
+use Rattle.program.specs.Program.{kindsOf, isParameter, localCount, localKind, parametersEnd, parameterKinds, resultKinds, procedureIn}
+use Rattle.program.proofs.Laws.{procedure-there}
 use Rattle.steps.proofs.Laws.{length-kinds}
 use Rattle.locals.specs.Locals.{parameterCount}
 use Rattle.judging.specs.Judging.{AcceptedTable}
-use Rattle.judging.proofs.Sizes.{rows-fine}
+use Rattle.judging.proofs.Sizes.{rows-fine, nth-hit}
 use Rattle.walks.proofs.Rows.{own, code-some}
 use Rattle.judged.specs.Judged.{localKinds, Procedure}
 use Rattle.judged.proofs.Stretches.{kind-at, kinds-split}
-use Rattle.judged.proofs.Counts.{procedure-few}
+use Rattle.judged.proofs.Counts.{procedure-few, results-few}
 
 -- the locals of any procedure
 module _ (t : List ℕ) (p : ProcedureEntry) where
@@ -47,6 +52,16 @@ module _ (t : List ℕ) (p : ProcedureEntry) where
 pub few : (t : List ℕ) → AcceptedTable t → (q : ℕ) → q < indexOf t .procedures → q < 128
 few t a = procedure-few t (rows-fine t (rowCount t) (a .byRows))
 
+-- it has at most four results
+few-results : (t : List ℕ) → AcceptedTable t → (q : ℕ) → q < indexOf t .procedures → length (resultKinds t (procedureIn (indexOf t) q)) ≤ 4
+unfolding resultKinds isKind Lists.count indexOf procedureIn procedureAt
+few-results t a q there =
+    let r = procedure-there t q there (few t a q there) in
+    let at = Lists.nth (isKind t procedureKind) (indexedRows t) q in
+    let kind : procedureKind ≡ kindAt t at = sym (eqb-true (kindAt t at) procedureKind (nth-hit (isKind t procedureKind) (indexedRows t) q there)) in
+    let size = results-few t (rows-fine t (rowCount t) (a .byRows)) at (r .1) kind in
+    rw (r .0) (omega (arith, length-kinds t (resultsStart t at) (codeStart t at), size))
+
 -- procedure q of an accepted table
 pub procedure : (t : List ℕ) → AcceptedTable t → (q : ℕ) → q < indexOf t .procedures → Procedure t (indexOf t) q
 procedure t a q there = record {
@@ -55,4 +70,5 @@ procedure t a q there = record {
   locals = locals-length t (own t q);
   parameters = parameters-length t (own t q);
   local-at = local-kind t (own t q);
+  results = few-results t a q there;
 }

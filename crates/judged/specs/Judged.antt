@@ -9,9 +9,9 @@ use lib.Dec.{eqb}
 use lib.ListN.{length, getD, getElem? as nth}
 use Rattle.table.specs.declared.index.Index.{Index}
 use Rattle.table.specs.declared.index.ProcedureEntry.{ProcedureEntry}
-use Rattle.table.specs.Format.{maxFields, opMvLoc, opBorrowLoc, opBorrowFld, opPack, opExists, opCall, opRet, opBranch, opBranchCond, opOp}
+use Rattle.table.specs.Format.{maxFields, maxResults, opMvLoc, opBorrowLoc, opBorrowFld, opPack, opExists, opCall, opRet, opBranch, opBranchCond, opOp}
 use Rattle.table.specs.Rows.{rowCount, rowAt}
-use Rattle.program.specs.Program.{recordOf, isReference, rowKind, kindsOf, typeIn, procedureIn, fieldCount, fieldKinds, fieldRow, localCount, localKind, parametersEnd, parameterKinds, codeOf}
+use Rattle.program.specs.Program.{recordOf, isReference, rowKind, kindsOf, typeIn, procedureIn, fieldCount, fieldKinds, fieldRow, localCount, localKind, parametersEnd, parameterKinds, resultKinds, codeOf}
 use Rattle.reach.specs.Reach.{Mem}
 use Rattle.kinds.specs.Kinds.{good}
 use Rattle.operands.specs.Operands.{kindsBefore}
@@ -38,6 +38,8 @@ pub record Procedure (t : List ℕ) (ix : Index) (p : ℕ) : Type 0 where
   pub locals : length (localKinds t (procedureIn ix p)) ≡ localCount (procedureIn ix p)
   pub parameters : length (parameterKinds t (procedureIn ix p)) ≡ parameterCount t (procedureIn ix p)
   pub local-at : (l : ℕ) → l < localCount (procedureIn ix p) → nth (localKinds t (procedureIn ix p)) l ≡ some (localKind t (procedureIn ix p) l)
+  -- it has at most four results
+  pub results : length (resultKinds t (procedureIn ix p)) ≤ maxResults
 
 -- instruction i of procedure p
 pub record Instruction (t : List ℕ) (ix : Index) (p i : ℕ) : Type 0 where

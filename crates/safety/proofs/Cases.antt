@@ -30,14 +30,14 @@ use Rattle.rules.specs.Calls.{allNumbers}
 use Rattle.rules.specs.Step.{pushedOn, one, two, withNumber, withRecord, numberAt, recordAt, fieldsAt, withLocal, fillable, fieldReference, underKey, truth, calculations, actions, returned, noneHeld, nothingUnder}
 use Rattle.safety.specs.Ownership.{same as sameId, inValue, inValues, inSlot, inLocals, inFrames, inRecords, inStore, livesAt}
 use Rattle.safety.specs.Words.{moduleOf, declarer, guardedField}
-use Rattle.safety.specs.Claim.{All, none-left, also, Owned}
+use Rattle.safety.specs.Claim.{All, none-left, also, Owned, IsNumber}
 use Rattle.safety.proofs.Counts.{held-rev, held-set, held-start, heap-set, heap-snoc, alive-set, alive-snoc, alive-put, vals-set, same-one, alive-gone, find-drop, put-set}
 use Rattle.safety.proofs.Changes.{clash, Change, same, wrote, packed, unpacked, published, withdrew}
 use Rattle.safety.proofs.Sorts.{reference-loose}
 use Rattle.safety.proofs.Typing.{Word, Fit, fnum, fobj, floc, ffld, frec, Has, hnil, hcons, has-push, has-more, Slots, slots-more, Fields, CellOk, cells-more, EntryOk, entries-more, snoc-more, snoc-last}
 use Rattle.safety.proofs.Places.{as-fields, of-fields, loose, as-number, as-record, slot-full, slot-clear, slot-put, slot-free, emptied}
 use Rattle.safety.proofs.Frames.{FrameOk, Suspended, bottom, over, suspended-more, Stack, runs, typeOf, Inv, write, held-local, cell-at, all-set, all-snoc, types-set, types-snoc, types-length, find-key, drop-key, field-put, NumberAt, lost, inALocal, inAField, number-at, RecordAt, lostRecord, leads, record-at, FieldAt, numberField, recordField, field-at}
-use Rattle.safety.proofs.Entering.{entered}
+use Rattle.safety.proofs.Entering.{entered, has-length}
 use Rattle.safety.proofs.Instructions.{effect-at, locals-kept, locals-moved, locals-stored, pushes-moved, pushes-copied, pushes-field, pushes-length}
 use Rattle.safety.proofs.Running.{OutcomeOk, Running, one-taken, two-taken, none-taken, push-none, push-one, target-same, given, pushedMarks, localsThen, Did, stands, waits, goes-on, then, keeps}
 
@@ -449,6 +449,11 @@ unfolding allNumbers isRecord
 numbers-hold [] e hnil r = refl
 numbers-hold (k ∷ ks) e (hcons f h) r = let c = and-both _ _ e in omega (arith, loose f (ap isRecord (eqb-true k number (c .0))) r, numbers-hold ks (c .1) h r)
 
+are-numbers : {t : List ℕ} {T W : List ℕ} {m : ℕ} {vs : List Value} {bs : List Bool} (ks : List ℕ) → allNumbers ks ≡ true → Has t (indexOf t) T W m vs ks bs → All IsNumber vs
+unfolding allNumbers
+are-numbers [] e hnil = none-left
+are-numbers (k ∷ ks) e (hcons f h) = let c = and-both _ _ e in also (as-number f (eqb-true k number (c .0))) (are-numbers ks (c .1) h)
+
 -- a place that holds something is inside
 nth-inside : (ks : List ℕ) (l k : ℕ) → nth ks l ≡ some k → l < length ks
 nth-inside [] l k e = absurd (clash (cc))
@@ -461,16 +466,10 @@ pub arrive : {t : List ℕ} {T W : List ℕ} {q : ℕ} {fs : List Frame} (vs : L
     → map typeOf h ≡ T → length W ≡ n → All (CellOk t (indexOf t) T) h → All (EntryOk T) st → ((r : ℕ) → inValues r vs + inFrames r fs + inRecords r h + inStore r st ≡ livesAt h r)
     → (C : List Cell → List Entry → Type 0) → C h st → OutcomeOk t C (returned fs vs h st n)
 unfolding onto marksOn
-arrive {t} {T} {q} vs h st n (bottom z) a ty se hp sr g C c = (
-  record {
-    T = T;
-    types = ty;
-    records = hp;
-    store = sr;
-    owned = λ r. omega (arith, g r, numbers-hold (resultKinds t (procedureIn (indexOf t) q)) z (a 0 (map (λ (k : ℕ). false) (resultKinds t (procedureIn (indexOf t) q))) (length-map (resultKinds t (procedureIn (indexOf t) q)) (λ (k : ℕ). false))) r);
-  },
-  c,
-)
+arrive {t} {T} {q} vs h st n (bottom z x) a ty se hp sr g C c =
+    let ks = resultKinds t (procedureIn (indexOf t) q) in
+    let given = a 0 (map (λ (k : ℕ). false) ks) (length-map ks (λ (k : ℕ). false)) in
+    (record { T = T; types = ty; records = hp; store = sr; owned = λ r. omega (arith, g r, numbers-hold ks z given r) }, c, are-numbers ks z given, rw (has-length given) x)
 arrive {t} {T} {W} vs h st n (over {p} {ops} e d f s) a ty se hp sr g C c = (
   record {
     T = T;

@@ -9,6 +9,7 @@ use borrow.Author.Tests.{eqb-true}
 use lib.ListN.{length, set, drop, replicate, length-append, length-replicate, length-map, length-drop, getElem? as nth}
 use Rattle.table.specs.declared.Verdict.the-variants.{Accepted}
 use Rattle.table.specs.declared.index.Index.{Index}
+use Rattle.table.specs.Format.{maxResults}
 use Rattle.table.specs.Index.{indexOf}
 use Rattle.table.specs.Rows.{rowAt}
 use Rattle.program.specs.Program.{number, procedureIn, codeOf, localCount, parameterKinds}
@@ -23,7 +24,7 @@ use Rattle.rules.specs.Run.{historyOf}
 use Rattle.safety.specs.Ownership.{inValues, inRecords, inStore, livesAt}
 use Rattle.safety.specs.Words.{moduleOf, declarer, guardedField, Exists}
 use Rattle.safety.specs.Callable.{Callable, GoodCall}
-use Rattle.safety.specs.Claim.{All, none-left, also, Owned, Proper, ProperOutcome, ReadyState, KeptState, OwnedState, Restored, EndOf, Later, Safe, safe, ends}
+use Rattle.safety.specs.Claim.{All, none-left, also, Owned, Proper, ProperOutcome, ReadyState, KeptState, OwnedState, Restored, EndOf, Later, Safe, safe, ends, Nested, Reached, IsNumber}
 use Rattle.safety.proofs.Counts.{held-start}
 use Rattle.safety.proofs.Changes.{clash, Change, Limited, limits, grows, keyCount}
 use Rattle.safety.proofs.Sounds.{changed-ok, written-ok, made-ok, broken-ok, entered-ok, left-ok, nth-app}
@@ -34,6 +35,7 @@ use Rattle.safety.proofs.Running.{Rest, OutcomeOk}
 use Rattle.safety.proofs.Cases.{and-both}
 use Rattle.safety.proofs.Steps.{StateOk, DidAt, step-ok, state-ready}
 use Rattle.safety.proofs.Guests.{stack-kept, operands-own}
+use Rattle.safety.proofs.Owning.{nested, reached}
 use Rattle.safety.proofs.Callable.{good-calls}
 
 -- Restored records: those of the beginning, the others gone
@@ -144,7 +146,7 @@ module _ (t : List ℕ) (J : Judged t (indexOf t)) where
   kept (state fs h st n) v = stack-kept J (v .frames)
 
   owned : (s : State) → StateOk t s → OwnedState t (indexOf t) s
-  owned (state fs h st n) v = v .owned
+  owned (state fs h st n) v = (v .owned, nested t J (v .T) h (v .types) (v .records) fs st (v .owned))
 
   safe-moment : (s : State) (row : ℕ) (o : Outcome) → StateOk t s → ProperOutcome t (indexOf t) s o → Safe t (indexOf t) (moment s row o)
   safe-moment s row o v k = safe (state-ready t J s v) (kept s v) (owned s v) k
@@ -157,13 +159,16 @@ module _ (t : List ℕ) (J : Judged t (indexOf t)) where
   did-limits z (state [] h st n) h′ st′ d l = absurd d
   did-limits z (state (frame id p i ops ls ∷ fs) h st n) h′ st′ d l = (limits d (l .0), omega (arith, grows d, l .1))
 
-  longer : (s : State) (h′ : List Cell) (st′ : List Entry) → DidAt t s h′ st′ → Owned [] h′ st′ → (n′ : ℕ) → Later t (indexOf t) s (base h′ st′ n′)
+  later : (h′ : List Cell) (st′ : List Entry) (z : ℕ) → z ≤ length h′ → Rest t h′ st′ → (z ≤ length h′) × Owned [] h′ st′ × Nested h′ × ((id y : ℕ) → Exists h′ id y → Reached h′ st′ id)
+  later h′ st′ z l v = (l, v .owned, nested t J (v .T) h′ (v .types) (v .records) [] st′ (v .owned), reached t J (v .T) h′ (v .types) (v .records) st′ (v .owned))
+
+  longer : (s : State) (h′ : List Cell) (st′ : List Entry) → DidAt t s h′ st′ → Rest t h′ st′ → (n′ : ℕ) → Later t (indexOf t) s (base h′ st′ n′)
   longer (state [] h st n) h′ st′ d o n′ = absurd d
-  longer (state (frame id p i ops ls ∷ fs) h st n) h′ st′ d o n′ = (grows d, o)
+  longer (state (frame id p i ops ls ∷ fs) h st n) h′ st′ d o n′ = later h′ st′ (length h) (grows d) o
 
   -- a call's end
   EndOk : State → Outcome → Type 0
-  EndOk s (finished vs (state fs h st n)) = Rest t h st × Limited h st × Later t (indexOf t) s (base h st n)
+  EndOk s (finished vs (state fs h st n)) = Rest t h st × Limited h st × Later t (indexOf t) s (base h st n) × All IsNumber vs × (length vs ≤ maxResults)
   EndOk s (next s′) = ⊥
   EndOk s (stopped k) = Unit {0}
   EndOk s stuck = ⊥
@@ -182,7 +187,7 @@ module _ (t : List ℕ) (J : Judged t (indexOf t)) where
   onward-ok z s (next (state fs′ h′ st′ n′)) rest v k l ih =
       after-ok z (moment s (rowUp t (indexOf t) s) (next (state fs′ h′ st′ n′))) (rest (state fs′ h′ st′ n′)) (safe-moment s _ _ v (proper-outcome s _ v k)) (ih (state fs′ h′ st′ n′) (k .0) (did-limits z s h′ st′ (k .1) l))
   onward-ok z s (finished vs (state fs′ h′ st′ n′)) rest v k l ih =
-      (also (safe-moment s _ _ v (proper-outcome s _ v k)) none-left, (k .0, did-limits z s h′ st′ (k .1) l .0, longer s h′ st′ (k .1) (k .0 .owned) n′), l)
+      (also (safe-moment s _ _ v (proper-outcome s _ v k)) none-left, (k .0, did-limits z s h′ st′ (k .1) l .0, longer s h′ st′ (k .1) (k .0) n′, k .2, k .3), l)
   onward-ok z s (stopped j) rest v k l ih = (also (safe-moment s _ _ v (proper-outcome s _ v k)) none-left, tt, l)
   onward-ok z s stuck rest v k l ih = absurd k
 
@@ -205,7 +210,7 @@ module _ (t : List ℕ) (J : Judged t (indexOf t)) where
         W = replicate n 0 ++ (q ∷ []);
         types = v .types;
         serial = simp (length-append, length-replicate) (omega arith);
-        frames = runs (rw same-length at f) (bottom (c .gives));
+        frames = runs (rw same-length at f) (bottom (c .gives) (J .procedure q (c .there) .results));
         records = v .records;
         store = v .store;
         owned = λ r. omega (arith, v .owned r, held-start r (map num args) (localCount (procedureIn (indexOf t) q) - length args), numbers-free r args);
@@ -227,11 +232,11 @@ module _ (t : List ℕ) (J : Judged t (indexOf t)) where
   settle (base h st n) (ran es (state fs h′ st′ n′) row (next s)) v r = absurd (r .1)
   settle (base h st n) (ran es (state fs h′ st′ n′) row stuck) v r = absurd (r .1)
   settle (base h st n) (ran es (state fs h′ st′ n′) row (finished vs (state gs h″ st″ n″))) v r =
-      (all-append (r .0) (also (ends refl (r .1 .2)) none-left), (r .1 .0, r .1 .1))
+      (all-append (r .0) (also (ends (refl, r .1 .3, r .1 .4) (r .1 .2)) none-left), (r .1 .0, r .1 .1))
   settle (base h st n) (ran es (state fs h′ st′ n′) row (stopped k)) v r =
       let l = drop (length h) h′ in
       let rest = restored-rest t h h′ st (v .0) in (
-        all-append (r .0) (also (ends (refl, (λ id c e. nth-app h (map bury l) id c e), buried-dead h l) (restored-length h h′ (r .2 .1), rest .owned)) none-left),
+        all-append (r .0) (also (ends (refl, (λ id c e. nth-app h (map bury l) id c e), buried-dead h l) (later (restored h h′) st (length h′) (restored-length h h′ (r .2 .1)) rest)) none-left),
         (rest, record { few = omega (arith, buried-count h l, v .1 .few); entries = v .1 .entries; keys = v .1 .keys }),
       )
 

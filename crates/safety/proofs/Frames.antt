@@ -10,7 +10,7 @@ use lib.ListN.{length, getD, set, drop, getElem? as nth}
 use lib.Dec.{eqb}
 use borrow.Author.Tests.{eqb-true}
 use Rattle.table.specs.declared.index.Index.{Index}
-use Rattle.table.specs.Format.{opCall}
+use Rattle.table.specs.Format.{opCall, maxResults}
 use Rattle.table.specs.Rows.{rowCount, rowAt}
 use Rattle.program.specs.Program.{number, recordOf, numberRef, recordRef, referenceTo, isRecord, isReference, procedureIn, typeIn, fieldKinds, resultKinds, codeOf}
 use Rattle.kinds.specs.Kinds.{good}
@@ -48,7 +48,7 @@ pub record FrameOk (t : List ℕ) (ix : Index) (T W : List ℕ) (to : ℕ) (gap 
 
 -- the frames under one of procedure q: each stands at the Call of the one above
 pub data Suspended (t : List ℕ) (ix : Index) (T W : List ℕ) : ℕ → List Frame → Type 0 where
-  bottom : {q : ℕ} → allNumbers (resultKinds t (procedureIn ix q)) ≡ true → Suspended t ix T W q []
+  bottom : {q : ℕ} → allNumbers (resultKinds t (procedureIn ix q)) ≡ true → length (resultKinds t (procedureIn ix q)) ≤ maxResults → Suspended t ix T W q []
   over : {q id p i : ℕ} {ops : List Value} {ls : List (Option Value)} {fs : List Frame} → rowAt (codeOf t (procedureIn ix p)) i .a ≡ opCall → rowAt (codeOf t (procedureIn ix p)) i .b ≡ q
       → FrameOk t ix T W (i + 1) (resultKinds t (procedureIn ix q)) id p ops ls → Suspended t ix T W p fs → Suspended t ix T W q (frame id p i ops ls ∷ fs)
 
@@ -104,11 +104,11 @@ module _ {t : List ℕ} {ix : Index} {T W : List ℕ} where
     }
 
     pub suspended-more : {q : ℕ} {fs : List Frame} → Suspended t ix T W q fs → Suspended t ix U X q fs
-    suspended-more (bottom z) = bottom z
+    suspended-more (bottom z x) = bottom z x
     suspended-more (over e d f s) = over e d (frame-more f) (suspended-more s)
 
   pub find-suspended : {q : ℕ} {fs : List Frame} → Suspended t ix T W q fs → (f p l k : ℕ) → nth W f ≡ some p → nth (localKinds t (procedureIn ix p)) l ≡ some k → Found t ix T W k (localOf fs f l)
-  find-suspended (bottom z) f p l k c d = nothing
+  find-suspended (bottom z x) f p l k c d = nothing
   find-suspended (over {id} {p = p′} e h x s) f p l k c d = find-go (eqb id f) id f p′ p l k _ refl (x .named) c d (x .slots) (find-suspended s f p l k c d)
 
   pub find : {fs : List Frame} → Stack t ix T W fs → (f p l k : ℕ) → nth W f ≡ some p → nth (localKinds t (procedureIn ix p)) l ≡ some k → Found t ix T W k (localOf fs f l)
@@ -141,7 +141,7 @@ module _ {t : List ℕ} {ix : Index} {T W : List ℕ} where
   write-suspended-go i false f l x n c d k s e u ih = over c d k (ih e)
 
   write-suspended : {q : ℕ} {fs : List Frame} → Suspended t ix T W q fs → (f l x n : ℕ) → localOf fs f l ≡ some (num x) → Word n → Suspended t ix T W q (putLocal fs f l (num n))
-  write-suspended (bottom z) f l x n e u = bottom z
+  write-suspended (bottom z few) f l x n e u = bottom z few
   write-suspended (over {id} {i} c d k s) f l x n e u = write-suspended-go i (eqb id f) f l x n c d k s e u (λ q. write-suspended s f l x n q u)
 
   write-go : {id p i : ℕ} {ops : List Value} {ls : List (Option Value)} {fs : List Frame} (b : Bool) (f l x n : ℕ) → FrameOk t ix T W i [] id p ops ls → Suspended t ix T W p fs

@@ -76,7 +76,7 @@ module _ {t : List ℕ} {T W : List ℕ} (judged : Judged t (indexOf t)) where
     frame-kept i v (local l e) g = let z = slot-place (f .slots) l e in fits-kept (markOf (getD (f .L) l empty)) (z .1) (λ q. clean-guest q .0 l) g
 
   suspended-kept : {q : ℕ} {fs : List Frame} → Suspended t (indexOf t) T W q fs → All (Kept t (indexOf t)) fs
-  suspended-kept (bottom z) = none-left
+  suspended-kept (bottom z x) = none-left
   suspended-kept (over {id} {p} {i} {ops} {ls} e d f s) = also {x = frame id p i ops ls} (frame-kept f i) (suspended-kept s)
 
   -- every frame, running or suspended

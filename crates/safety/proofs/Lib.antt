@@ -12,4 +12,5 @@ pub mod Cases
 pub mod Steps
 pub mod Callable
 pub mod Guests
+pub mod Owning
 pub mod Demand3

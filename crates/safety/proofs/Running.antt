@@ -6,7 +6,7 @@ use mathlib.Core.Bool.{Bool, true, false, cond}
 use mathlib.Core.Option.{Option, none, some}
 use native.Mathlib.Omega.{arith}
 use lib.ListN.{length, getD, set, drop, getElem? as nth}
-use Rattle.table.specs.Format.{opWriteRef}
+use Rattle.table.specs.Format.{opWriteRef, maxResults}
 use Rattle.table.specs.Index.{indexOf}
 use Rattle.table.specs.Rows.{rowCount, rowAt}
 use Rattle.program.specs.Program.{procedureIn, codeOf}
@@ -25,7 +25,7 @@ use Rattle.rules.specs.Machine.{Value, num, obj, toLocal, toField, toRecord, Ce
 use Rattle.rules.specs.Step.{pushedOn}
 use Rattle.safety.specs.Ownership.{inValues, inLocals, inFrames, inRecords, inStore, livesAt}
 use Rattle.safety.specs.Words.{moduleOf, declarer}
-use Rattle.safety.specs.Claim.{All, Owned}
+use Rattle.safety.specs.Claim.{All, Owned, IsNumber}
 use Rattle.safety.proofs.Changes.{Change, same}
 use Rattle.safety.proofs.Typing.{Fit, Has, hnil, hcons, has-push, has-more, slots-more, _⊑_, Slots, CellOk, EntryOk, Clean}
 use Rattle.safety.proofs.Frames.{FrameOk, Suspended, Stack, runs, typeOf, Inv}
@@ -41,7 +41,7 @@ pub record Rest (t : List ℕ) (h : List Cell) (st : List Entry) : Type 0 where
 -- an outcome that keeps what holds, and does to records and store what C says
 abbrev pub OutcomeOk : List ℕ → (List Cell → List Entry → Type 0) → Outcome → Type 0
 OutcomeOk t C (next (state fs h st n)) = Inv t (indexOf t) fs h st n × C h st
-OutcomeOk t C (finished vs (state fs h st n)) = Rest t h st × C h st
+OutcomeOk t C (finished vs (state fs h st n)) = Rest t h st × C h st × All IsNumber vs × (length vs ≤ maxResults)
 OutcomeOk t C (stopped k) = Unit {0}
 OutcomeOk t C stuck = ⊥
 

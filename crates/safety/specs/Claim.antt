@@ -7,11 +7,12 @@ use mathlib.Core.Logic.{_≢_}
 use mathlib.Core.Option.{Option, none, some}
 use lib.ListN.{length, getElem? as nth}
 use Rattle.table.specs.declared.index.Index.{Index}
-use Rattle.table.specs.Format.{opWriteRef, opPack, opUnpack, opMoveTo, opMoveFrom}
+use Rattle.table.specs.Format.{maxResults, opWriteRef, opPack, opUnpack, opMoveTo, opMoveFrom}
 use Rattle.table.specs.Rows.{rowCount}
 use Rattle.program.specs.Program.{procedureIn, codeOf}
 use Rattle.reach.specs.Reach.{Mem}
-use Rattle.rules.specs.Machine.{Value, num, toField, Cell, gone, here, Entry, Frame, frame, State, state, Outcome, next, finished, stopped, stuck}
+use Rattle.rules.specs.Limits.{pastNumbers}
+use Rattle.rules.specs.Machine.{Value, num, obj, toField, Cell, gone, here, Entry, Frame, frame, State, state, Outcome, next, finished, stopped, stuck}
 use Rattle.rules.specs.Step.{Taken, took, taken, instruction, effectAt, step}
 use Rattle.rules.specs.History.{Base, base, Event, moment, ended}
 use Rattle.safety.specs.Ownership.{inFrames, inRecords, inStore, livesAt}
@@ -25,6 +26,19 @@ pub data All {A : Type 0} (Q : A → Type 0) : List A → Type 0 where
 -- each live record is held exactly once, and no other
 abbrev pub Owned : List Frame → List Cell → List Entry → Type 0
 Owned fs rs st = (r : ℕ) → inFrames r fs + inRecords r rs + inStore r st ≡ livesAt rs r
+
+-- a record in a field of a record exists and is of a lower type: so no record holds itself, directly or through others
+abbrev pub Nested : List Cell → Type 0
+Nested rs = (id y : ℕ) (vs : List Value) → nth rs id ≡ some (here y vs) → (id′ y′ : ℕ) → Mem (obj id′ y′) vs → (y′ < y) × Exists rs id′ y′
+
+-- a record that is reached from the store: an entry, or in a field of one that is reached
+pub data Reached (rs : List Cell) (st : List Entry) : ℕ → Type 0 where
+  published-there : {id : ℕ} (y a : ℕ) → IsEntry st y a id → Reached rs st id
+  nested-there : {id : ℕ} (y : ℕ) (vs : List Value) (id′ y′ : ℕ) → Reached rs st id → nth rs id ≡ some (here y vs) → Mem (obj id′ y′) vs → Reached rs st id′
+
+-- a number of 64 bits
+abbrev pub IsNumber : Value → Type 0
+IsNumber v = (n : ℕ) × (v ≡ num n) × (n < pastNumbers)
 
 -- in a table with this index
 module _ (t : List ℕ) (ix : Index) where
@@ -79,22 +93,22 @@ module _ (t : List ℕ) (ix : Index) where
   KeptState (state fs rs st n) = All Kept fs
 
   abbrev pub OwnedState : State → Type 0
-  OwnedState (state fs rs st n) = Owned fs rs st
+  OwnedState (state fs rs st n) = Owned fs rs st × Nested rs
 
-  -- 5. A stopped call leaves the store of its beginning: the same entries, and the same records with the same fields; no other record exists
+  -- 5. A finished call returns at most four numbers. A stopped call leaves the store of its beginning: the same entries, and the same records with the same fields; no other record exists
   abbrev pub Restored : Base → Base → Type 0
   Restored (base rs st n) (base rs′ st′ n′) =
       (st′ ≡ st) × ((id : ℕ) (c : Cell) → nth rs id ≡ some c → nth rs′ id ≡ some c) × ((id y : ℕ) → length rs ≤ id → ¬ (Exists rs′ id y))
 
   abbrev pub EndOf : Base → State → Outcome → Base → Type 0
-  EndOf before s (finished vs (state fs rs st n)) after = after ≡ base rs st n
+  EndOf before s (finished vs (state fs rs st n)) after = (after ≡ base rs st n) × All IsNumber vs × (length vs ≤ maxResults)
   EndOf before s (next s′) after = ⊥
   EndOf before s (stopped k) after = Restored before after
   EndOf before s stuck after = ⊥
 
-  -- no identity of the call is used again; between calls what lives is held by the store and by records
+  -- no identity of the call is used again; between calls every record that exists is reached from the store
   abbrev pub Later : State → Base → Type 0
-  Later (state fs rs st n) (base rs′ st′ n′) = (length rs ≤ length rs′) × Owned [] rs′ st′
+  Later (state fs rs st n) (base rs′ st′ n′) = (length rs ≤ length rs′) × Owned [] rs′ st′ × Nested rs′ × ((id y : ℕ) → Exists rs′ id y → Reached rs′ st′ id)
 
   pub data Safe : Event → Type 0 where
     safe : {s : State} {row : ℕ} {o : Outcome} → ReadyState s → KeptState s → OwnedState s → ProperOutcome s o → Safe (moment s row o)
