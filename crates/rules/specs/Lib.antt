@@ -6,3 +6,8 @@ pub mod History
 pub mod Ascii
 pub mod Text
 pub mod Run
+pub mod Ownership
+pub mod Words
+pub mod Claim
+pub mod Callable
+pub mod Lengths

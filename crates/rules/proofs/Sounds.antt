@@ -1,0 +1,144 @@
+-- What a change of records and store means for guarded numbers, records and entries.
+use Prim.Native.Nat.{ℕ, zero, suc, _+_, _<_, _≤_}
+use mathlib.Core.Path.{_≡_, refl, ap, sym, _∙_}
+use mathlib.Core.List.{List, [], _∷_, _++_, List·Memᴰ·head, List·Memᴰ·tail, List·Memᴰ·cases-cons}
+use mathlib.Core.Bool.{Bool, true, false, cond, _&&_}
+use mathlib.Core.Option.{Option, none, some}
+use mathlib.Core.Logic.{_⊎_, inl, inr, ⊎-elim, _≢_}
+use native.Mathlib.Omega.{arith}
+use lib.ListN.{length, set, getElem? as nth}
+use lib.Dec.{eqb}
+use borrow.Author.Tests.{eqb-true}
+use Rattle.table.specs.Format.{opWriteRef, opPack, opUnpack, opMoveTo, opMoveFrom}
+use Rattle.reach.specs.Reach.{Mem}
+use Rattle.rules.specs.Machine.{Value, num, toField, Cell, gone, here, Entry, entry, dropKey}
+use Rattle.rules.specs.Words.{Exists, NumberIn}
+use Rattle.rules.proofs.Changes.{clash, Change, same, wrote, packed, unpacked, published, withdrew}
+
+module _ {A : Type 0} where
+  nth-set : (h : List A) (a id : ℕ) (c d : A) → nth (set h a c) id ≡ some d → ((id ≡ a) × (c ≡ d)) ⊎ (nth h id ≡ some d)
+  nth-set [] a id c d e = inr e
+  nth-set (x ∷ h) zero zero c d e = inl (refl, cc)
+  nth-set (x ∷ h) zero (suc id) c d e = inr e
+  nth-set (x ∷ h) (suc a) zero c d e = inr e
+  nth-set (x ∷ h) (suc a) (suc id) c d e = ⊎-elim (λ q. inl (ap suc (q .0), q .1)) (λ q. inr q) (nth-set h a id c d e)
+
+  nth-back : (h : List A) (a id : ℕ) (c d : A) → nth h id ≡ some d → ((id ≡ a) × (nth (set h a c) id ≡ some c)) ⊎ (nth (set h a c) id ≡ some d)
+  nth-back [] a id c d e = inr e
+  nth-back (x ∷ h) zero zero c d e = inl (refl, refl)
+  nth-back (x ∷ h) zero (suc id) c d e = inr e
+  nth-back (x ∷ h) (suc a) zero c d e = inr e
+  nth-back (x ∷ h) (suc a) (suc id) c d e = ⊎-elim (λ q. inl (ap suc (q .0), q .1)) (λ q. inr q) (nth-back h a id c d e)
+
+  nth-put : (h : List A) (a : ℕ) (c d : A) → nth (set h a c) a ≡ some d → c ≡ d
+  nth-put [] a c d e = absurd (clash (cc))
+  nth-put (x ∷ h) zero c d e = cc
+  nth-put (x ∷ h) (suc a) c d e = nth-put h a c d e
+
+  pub nth-app : (h l : List A) (id : ℕ) (d : A) → nth h id ≡ some d → nth (h ++ l) id ≡ some d
+  nth-app [] l id d e = absurd (clash (cc))
+  nth-app (x ∷ h) l zero d e = e
+  nth-app (x ∷ h) l (suc id) d e = nth-app h l id d e
+
+  nth-snoc : (h : List A) (c : A) (id : ℕ) (d : A) → nth (h ++ (c ∷ [])) id ≡ some d → (nth h id ≡ some d) ⊎ (c ≡ d)
+  nth-snoc [] c zero d e = inr (cc)
+  nth-snoc [] c (suc id) d e = absurd (clash (cc))
+  nth-snoc (x ∷ h) c zero d e = inl e
+  nth-snoc (x ∷ h) c (suc id) d e = nth-snoc h c id d e
+
+  head-of : {l r : List A} {v : A} → l ≡ v ∷ r → Mem v l
+  head-of {r} {v} e = rw e (List·Memᴰ·head refl)
+
+uniq : (h : List Cell) (id t j x y : ℕ) → NumberIn h id t j x → NumberIn h id t j y → x ≡ y
+uniq h id t j x y a b = let z : a .fields ≡ b .fields = cc (a .exists, b .exists) in cc (z, a .number, b .number)
+
+drop-in-go : (b : Bool) (e x : Entry) (st l : List Entry) → Mem e (cond b st (x ∷ l)) → (Mem e l → Mem e st) → Mem e (x ∷ st)
+drop-in-go true e x st l m ih = List·Memᴰ·tail m
+drop-in-go false e x st l m ih = ⊎-elim (λ q. List·Memᴰ·head q) (λ q. List·Memᴰ·tail (ih q)) (List·Memᴰ·cases-cons m)
+
+drop-in : (e : Entry) (st : List Entry) (t a : ℕ) → Mem e (dropKey st t a) → Mem e st
+drop-in e [] t a m = m
+drop-in e (entry t′ a′ id ∷ st) t a m = drop-in-go (eqb t′ t && eqb a′ a) e (entry t′ a′ id) st (dropKey st t a) m (drop-in e st t a)
+
+drop-out-go : (b c : Bool) (t a r t′ a′ t″ a″ id : ℕ) (st l : List Entry) → eqb t″ t′ ≡ b → Mem (entry t a r) (entry t″ a″ id ∷ st) → (Mem (entry t a r) st → (t ≡ t′) ⊎ Mem (entry t a r) l)
+    → (t ≡ t′) ⊎ Mem (entry t a r) (cond (b && c) st (entry t″ a″ id ∷ l))
+drop-out-go true true t a r t′ a′ t″ a″ id st l e m ih = ⊎-elim (λ q. let y : t″ ≡ t′ = eqb-true t″ t′ e in inl (cc)) (λ q. inr q) (List·Memᴰ·cases-cons m)
+drop-out-go true false t a r t′ a′ t″ a″ id st l e m ih = ⊎-elim (λ q. inr (List·Memᴰ·head q)) (λ q. ⊎-elim (λ y. inl y) (λ y. inr (List·Memᴰ·tail y)) (ih q)) (List·Memᴰ·cases-cons m)
+drop-out-go false true t a r t′ a′ t″ a″ id st l e m ih = ⊎-elim (λ q. inr (List·Memᴰ·head q)) (λ q. ⊎-elim (λ y. inl y) (λ y. inr (List·Memᴰ·tail y)) (ih q)) (List·Memᴰ·cases-cons m)
+drop-out-go false false t a r t′ a′ t″ a″ id st l e m ih = ⊎-elim (λ q. inr (List·Memᴰ·head q)) (λ q. ⊎-elim (λ y. inl y) (λ y. inr (List·Memᴰ·tail y)) (ih q)) (List·Memᴰ·cases-cons m)
+
+drop-out : (t a r : ℕ) (st : List Entry) (t′ a′ : ℕ) → Mem (entry t a r) st → (t ≡ t′) ⊎ Mem (entry t a r) (dropKey st t′ a′)
+drop-out t a r [] t′ a′ m = inr m
+drop-out t a r (entry t″ a″ id ∷ st) t′ a′ m = drop-out-go (eqb t″ t′) (eqb a″ a′) t a r t′ a′ t″ a″ id st (dropKey st t′ a′) refl m (drop-out t a r st t′ a′)
+
+module _ {decl : ℕ → ℕ} {m op o : ℕ} {ops : List Value} {h h′ : List Cell} {st st′ : List Entry} where
+  pub changed-ok : (guarded : ℕ → ℕ → Bool) → Change decl m op o ops h st h′ st′ → ((id t j : ℕ) → guarded t j ≡ true → Mem (toField id t j) ops → decl t ≡ m) → (id t j x y : ℕ) → guarded t j ≡ true → NumberIn h id t j x → NumberIn h′ id t j y → x ≢ y
+      → (op ≡ opWriteRef) × ((under : List Value) × (ops ≡ toField id t j ∷ num y ∷ under)) × (decl t ≡ m)
+  changed-ok guarded (same c e d) k id t j x y g a b n = absurd (n (uniq h id t j x y a (rw e at b)))
+  changed-ok guarded (wrote c t′ j′ x′ vs under q r l e d) k id t j x y g a b n =
+      ⊎-elim
+      (λ z. let w : nth (set vs j′ (num x′)) j ≡ some (num y) = cc (z .1, b .number) in
+      ⊎-elim
+      (λ u. let v : ops ≡ toField id t j ∷ num y ∷ under = cc (r, z .0, z .1, u .0, u .1) in (q, (under, v), k id t j g (head-of v)))
+      (λ u. let v : here t′ vs ≡ here t (a .fields) = cc (l, z .0, a .exists) in absurd (n (cc (u, v, a .number))))
+      (nth-set vs j′ j (num x′) (num y) w))
+      (λ z. absurd (n (uniq h id t j x y a (record { fields = b .fields; exists = z; number = b .number }))))
+      (nth-set h c id (here t′ (set vs j′ (num x′))) (here t (b .fields)) (rw e at (b .exists)))
+  changed-ok guarded (packed vs lt q m e d) k id t j x y g a b n =
+      absurd (n (uniq (h ++ (here o vs ∷ [])) id t j x y (record { fields = a .fields; exists = nth-app h (here o vs ∷ []) id (here t (a .fields)) (a .exists); number = a .number }) (rw e at b)))
+  changed-ok guarded (unpacked c vs q m l e d) k id t j x y g a b n =
+      ⊎-elim (λ z. absurd (clash (cc (z .1)))) (λ z. absurd (n (uniq h id t j x y a (record { fields = b .fields; exists = z; number = b .number }))))
+      (nth-set h c id (gone o) (here t (b .fields)) (rw e at (b .exists)))
+  changed-ok guarded (published c r fk lt q m e d) k id t j x y g a b n = absurd (n (uniq h id t j x y a (rw e at b)))
+  changed-ok guarded (withdrew c q m e d) k id t j x y g a b n = absurd (n (uniq h id t j x y a (rw e at b)))
+
+  pub made-ok : Change decl m op o ops h st h′ st′ → (id t : ℕ) → Exists h′ id t → ¬ (Exists h id t) → (op ≡ opPack) × (o ≡ t) × (decl t ≡ m)
+  made-ok (same c e d) id t a n = absurd (n (a .0, rw e at (a .1)))
+  made-ok (wrote c t′ j′ x′ vs under q r l e d) id t a n =
+      ⊎-elim (λ z. absurd (n (vs, cc (l, z .0, z .1)))) (λ z. absurd (n (a .0, z))) (nth-set h c id (here t′ (set vs j′ (num x′))) (here t (a .0)) (rw e at (a .1)))
+  made-ok (packed vs lt q m e d) id t a n = ⊎-elim (λ z. absurd (n (a .0, z))) (λ z. let y : o ≡ t = cc (z) in (q, y, rw y at m)) (nth-snoc h (here o vs) id (here t (a .0)) (rw e at (a .1)))
+  made-ok (unpacked c vs q m l e d) id t a n = ⊎-elim (λ z. absurd (clash (cc (z .1)))) (λ z. absurd (n (a .0, z))) (nth-set h c id (gone o) (here t (a .0)) (rw e at (a .1)))
+  made-ok (published c r fk lt q m e d) id t a n = absurd (n (a .0, rw e at (a .1)))
+  made-ok (withdrew c q m e d) id t a n = absurd (n (a .0, rw e at (a .1)))
+
+  pub broken-ok : Change decl m op o ops h st h′ st′ → (id t : ℕ) → Exists h id t → ¬ (Exists h′ id t) → (op ≡ opUnpack) × (o ≡ t) × (decl t ≡ m)
+  broken-ok (same c e d) id t a n = absurd (n (a .0, rw e (a .1)))
+  broken-ok (wrote c t′ j′ x′ vs under q r l e d) id t a n =
+      ⊎-elim (λ z. let y : t′ ≡ t = cc (l, z .0, a .1) in absurd (n (set vs j′ (num x′), rw (e, ← y) (z .1)))) (λ z. absurd (n (a .0, rw e z))) (nth-back h c id (here t′ (set vs j′ (num x′))) (here t (a .0)) (a .1))
+  broken-ok (packed vs lt q m e d) id t a n = absurd (n (a .0, rw e (nth-app h (here o vs ∷ []) id (here t (a .0)) (a .1))))
+  broken-ok (unpacked c vs q m l e d) id t a n =
+      ⊎-elim (λ z. let y : o ≡ t = cc (l, z .0, a .1) in (q, y, rw y at m)) (λ z. absurd (n (a .0, rw e z))) (nth-back h c id (gone o) (here t (a .0)) (a .1))
+  broken-ok (published c r fk lt q m e d) id t a n = absurd (n (a .0, rw e (a .1)))
+  broken-ok (withdrew c q m e d) id t a n = absurd (n (a .0, rw e (a .1)))
+
+  pub entered-ok : Change decl m op o ops h st h′ st′ → (t a r : ℕ) → Mem (entry t a r) st′ → ¬ (Mem (entry t a r) st) → (op ≡ opMoveTo) × (o ≡ t) × (decl t ≡ m)
+  entered-ok (same c e d) t a r k n = absurd (n (rw d at k))
+  entered-ok (wrote c t′ j′ x′ vs under q y l e d) t a r k n = absurd (n (rw d at k))
+  entered-ok (packed vs lt q m e d) t a r k n = absurd (n (rw d at k))
+  entered-ok (unpacked c vs q m l e d) t a r k n = absurd (n (rw d at k))
+  entered-ok (published c r′ fk lt q m e d) t a r k n = ⊎-elim (λ z. let y : o ≡ t = cc (z) in (q, y, rw y at m)) (λ z. absurd (n z)) (List·Memᴰ·cases-cons (rw d at k))
+  entered-ok (withdrew c q m e d) t a r k n = absurd (n (drop-in (entry t a r) st o c (rw d at k)))
+
+  pub left-ok : Change decl m op o ops h st h′ st′ → (t a r : ℕ) → Mem (entry t a r) st → ¬ (Mem (entry t a r) st′) → (op ≡ opMoveFrom) × (o ≡ t) × (decl t ≡ m)
+  left-ok (same c e d) t a r k n = absurd (n (rw d k))
+  left-ok (wrote c t′ j′ x′ vs under q y l e d) t a r k n = absurd (n (rw d k))
+  left-ok (packed vs lt q m e d) t a r k n = absurd (n (rw d k))
+  left-ok (unpacked c vs q m l e d) t a r k n = absurd (n (rw d k))
+  left-ok (published c r′ fk lt q m e d) t a r k n = absurd (n (rw d (List·Memᴰ·tail k)))
+  left-ok (withdrew c q m e d) t a r k n = ⊎-elim (λ z. (q, sym z, rw (← z) at m)) (λ z. absurd (n (rw d z))) (drop-out t a r st o c k)
+
+  -- a number that is written is there afterwards
+  pub written-ok : Change decl m op o ops h st h′ st′ → (id t j x z : ℕ) (under : List Value) → NumberIn h′ id t j x → op ≡ opWriteRef → ops ≡ toField id t j ∷ num z ∷ under → x ≡ z
+  written-ok (same c e d) id t j x z under b q r = absurd (c q id t j z under r)
+  written-ok (wrote c t′ j′ x′ vs under′ q′ r′ l e d) id t j x z under b q r =
+      let same-id : c ≡ id = cc (r, r′) in
+      let same-field : j′ ≡ j = cc (r, r′) in
+      let same-number : x′ ≡ z = cc (r, r′) in
+      let w : here t′ (set vs j′ (num x′)) ≡ here t (b .fields) = nth-put h c (here t′ (set vs j′ (num x′))) (here t (b .fields)) (cc (same-id, ap (λ (l : List Cell). nth l id) e, b .exists)) in
+      let u : nth (set vs j′ (num x′)) j′ ≡ some (num x) = cc (w, same-field, b .number) in
+      let v : num x′ ≡ num x = nth-put vs j′ (num x′) (num x) u in
+      cc (v, same-number)
+  written-ok (packed vs lt q′ m e d) id t j x z under b q r = absurd (omega (arith, q, q′))
+  written-ok (unpacked c vs q′ m l e d) id t j x z under b q r = absurd (omega (arith, q, q′))
+  written-ok (published c r′ fk lt q′ m e d) id t j x z under b q r = absurd (omega (arith, q, q′))
+  written-ok (withdrew c q′ m e d) id t j x z under b q r = absurd (omega (arith, q, q′))

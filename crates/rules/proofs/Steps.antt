@@ -1,0 +1,157 @@
+-- A step of an accepted table: what comes up has its operands, is not stuck, and keeps what holds.
+use Prim.Native.Nat.{ℕ, zero, suc, _+_, _<_, _≤_}
+use mathlib.Core.Path.{_≡_, refl, ap, sym, _∙_}
+use mathlib.Core.List.{List, [], _∷_, map}
+use mathlib.Core.Bool.{Bool, true, false, cond}
+use mathlib.Core.Option.{Option}
+use native.Mathlib.Omega.{arith}
+use lib.ListN.{length, getD}
+use Rattle.table.specs.declared.index.Index.{Index}
+use Rattle.table.specs.Index.{indexOf}
+use Rattle.table.specs.Rows.{rowCount, rowAt}
+use Rattle.program.specs.Program.{procedureIn, codeOf}
+use Rattle.kinds.specs.Kinds.{good}
+use Rattle.kinds.specs.Effects.{Effect, effects}
+use Rattle.operands.specs.Flow.{onto, effectIn, Flow}
+use Rattle.flow.specs.Walks.{pushedOn as marksOn}
+use Rattle.judged.specs.Judged.{Instruction, Judged}
+use Rattle.rules.specs.Machine.{Value, valueKind, Cell, Entry, Frame, frame, State, state, Outcome, next, finished, stopped, stuck}
+use Rattle.rules.specs.Step.{taken, took, topKind, instruction, effectAt, act, step}
+use Rattle.rules.specs.Ownership.{inValues}
+use Rattle.rules.specs.Words.{moduleOf, declarer}
+use Rattle.rules.specs.Claim.{Owned, Ready, ReadyState}
+use Rattle.rules.proofs.Counts.{held-rev}
+use Rattle.rules.proofs.Changes.{Change}
+use Rattle.rules.proofs.Typing.{Has, has-kinds, Took, take-off}
+use Rattle.rules.proofs.Frames.{FrameOk, Suspended, Stack, runs, Inv}
+use Rattle.rules.proofs.Instructions.{effect-at, effect-same}
+use Rattle.rules.proofs.Running.{OutcomeOk, Running, Did}
+use Rattle.rules.proofs.Cases.{Case, ok-pop, ok-load, ok-mv, ok-cp, ok-st, ok-borrow, ok-read, ok-write, ok-field, ok-pack, ok-unpack, ok-to, ok-from, ok-global, ok-exists, ok-call, ok-ret, ok-branch, ok-cond, ok-op}
+
+-- all opcodes
+by-opcode : {t : List ℕ} {T W : List ℕ} {id p i : ℕ} {ops vs under : List Value} {ls : List (Option Value)} {fs : List Frame} {h : List Cell} {st : List Entry} {n : ℕ}
+    (R : Running t T W id p i ops vs under ls fs h st n) (a : ℕ) → a ≤ 19 → Case R a
+by-opcode R zero l = ok-pop R
+by-opcode R (suc zero) l = ok-load R
+by-opcode R (suc (suc zero)) l = ok-mv R
+by-opcode R (suc (suc (suc zero))) l = ok-cp R
+by-opcode R (suc (suc (suc (suc zero)))) l = ok-st R
+by-opcode R (suc (suc (suc (suc (suc zero))))) l = ok-borrow R
+by-opcode R (suc (suc (suc (suc (suc (suc zero)))))) l = ok-read R
+by-opcode R (suc (suc (suc (suc (suc (suc (suc zero))))))) l = ok-write R
+by-opcode R (suc (suc (suc (suc (suc (suc (suc (suc zero)))))))) l = ok-field R
+by-opcode R (suc (suc (suc (suc (suc (suc (suc (suc (suc zero))))))))) l = ok-pack R
+by-opcode R (suc (suc (suc (suc (suc (suc (suc (suc (suc (suc zero)))))))))) l = ok-unpack R
+by-opcode R (suc (suc (suc (suc (suc (suc (suc (suc (suc (suc (suc zero))))))))))) l = ok-to R
+by-opcode R (suc (suc (suc (suc (suc (suc (suc (suc (suc (suc (suc (suc zero)))))))))))) l = ok-from R
+by-opcode R (suc (suc (suc (suc (suc (suc (suc (suc (suc (suc (suc (suc (suc zero))))))))))))) l = ok-global R
+by-opcode R (suc (suc (suc (suc (suc (suc (suc (suc (suc (suc (suc (suc (suc (suc zero)))))))))))))) l = ok-exists R
+by-opcode R (suc (suc (suc (suc (suc (suc (suc (suc (suc (suc (suc (suc (suc (suc (suc zero))))))))))))))) l = ok-call R
+by-opcode R (suc (suc (suc (suc (suc (suc (suc (suc (suc (suc (suc (suc (suc (suc (suc (suc zero)))))))))))))))) l = ok-ret R
+by-opcode R (suc (suc (suc (suc (suc (suc (suc (suc (suc (suc (suc (suc (suc (suc (suc (suc (suc zero))))))))))))))))) l = ok-branch R
+by-opcode R (suc (suc (suc (suc (suc (suc (suc (suc (suc (suc (suc (suc (suc (suc (suc (suc (suc (suc zero)))))))))))))))))) l = ok-cond R
+by-opcode R (suc (suc (suc (suc (suc (suc (suc (suc (suc (suc (suc (suc (suc (suc (suc (suc (suc (suc (suc zero))))))))))))))))))) l = ok-op R
+by-opcode R (suc (suc (suc (suc (suc (suc (suc (suc (suc (suc (suc (suc (suc (suc (suc (suc (suc (suc (suc (suc a)))))))))))))))))))) l = absurd (omega arith)
+
+no-gap : (G O : List Bool) → length G ≡ 0 → marksOn G O ≡ O
+unfolding marksOn
+no-gap [] O e = refl
+no-gap (b ∷ G) O e = absurd (omega arith)
+
+good-same : {xs ys : List ℕ} → good xs ≡ good ys → xs ≡ ys
+good-same e = cc
+
+top-is : (ops : List Value) (k : ℕ) (ks : List ℕ) → map valueKind ops ≡ k ∷ ks → topKind ops ≡ k
+top-is [] k ks e = cc
+top-is (v ∷ ops) k ks e = cc
+
+-- what holds of a state
+abbrev pub StateOk : List ℕ → State → Type 0
+StateOk t (state fs h st n) = Inv t (indexOf t) fs h st n
+
+-- what the instruction that comes up may do to records and store
+abbrev pub DidAt : List ℕ → State → List Cell → List Entry → Type 0
+DidAt t (state [] h st n) h′ st′ = ⊥
+DidAt t (state (frame id p i ops ls ∷ fs) h st n) h′ st′ =
+    Change (declarer (indexOf t)) (moduleOf (indexOf t) p) (rowAt (codeOf t (procedureIn (indexOf t) p)) i .a) (rowAt (codeOf t (procedureIn (indexOf t) p)) i .b) ops h st h′ st′
+
+module _ (t : List ℕ) (judged : Judged t (indexOf t)) where
+  -- a running frame and the operands that its instruction takes
+  module _ {T W : List ℕ} {id p i : ℕ} {ops : List Value} {ls : List (Option Value)} (f : FrameOk t (indexOf t) T W i [] id p ops ls) where
+    instr : Instruction t (indexOf t) p i
+    instr = judged .instruction p i (f .there) (f .inside)
+
+    abbrev effect : Effect
+    effect = effectIn t (indexOf t) (procedureIn (indexOf t) p) (instr .flow .top) i
+
+    kinds-are : f .rest ≡ onto (effect .takes) (instr .flow .rest)
+    unfolding onto
+    kinds-are = good-same (sym (f .kinds) ∙ instr .flow .before)
+
+    takes-off : Took t (indexOf t) T W (moduleOf (indexOf t) p) ops (effect .takes) (instr .flow .rest) (f .O)
+    takes-off = take-off (effect .takes) (rw kinds-are at (f .has))
+
+    -- the effect is the one that the judge found
+    effect-found : effectAt t (indexOf t) p i ops ≡ effect
+    unfolding effectAt effects onto
+    effect-found = go (rowAt (codeOf t (procedureIn (indexOf t) p)) i .a) refl
+      where
+        popped : rowAt (codeOf t (procedureIn (indexOf t) p)) i .a ≡ 0 → topKind ops ≡ instr .flow .top
+        popped e = top-is ops (instr .flow .top) (instr .flow .rest)
+            (has-kinds (f .has) ∙ kinds-are ∙ ap (λ (x : Effect). onto (x .takes) (instr .flow .rest)) (effect-at t (indexOf t) (procedureIn (indexOf t) p) i 0 (instr .flow .top) e))
+
+        go : (a : ℕ) → rowAt (codeOf t (procedureIn (indexOf t) p)) i .a ≡ a → effectIn t (indexOf t) (procedureIn (indexOf t) p) (topKind ops) i ≡ effect
+        go zero e = ap (λ (k : ℕ). effectIn t (indexOf t) (procedureIn (indexOf t) p) k i) (popped e)
+        go (suc a) e = effect-same t (indexOf t) (procedureIn (indexOf t) p) i a (topKind ops) (instr .flow .top) e
+
+  running : {fs : List Frame} {h : List Cell} {st : List Entry} {n : ℕ} (v : Inv t (indexOf t) fs h st n) {id p i : ℕ} {ops : List Value} {ls : List (Option Value)} {gs : List Frame}
+      (f : FrameOk t (indexOf t) (v .T) (v .W) i [] id p ops ls) → Suspended t (indexOf t) (v .T) (v .W) p gs → Owned (frame id p i ops ls ∷ gs) h st
+      → Running t (v .T) (v .W) id p i ops (takes-off f .vs) (takes-off f .under) ls gs h st n
+  running v f s o = record {
+    judged = judged;
+    instr = instr f;
+    named = f .named;
+    there = f .there;
+    L = f .L;
+    O = f .O;
+    len = f .len;
+    slots = f .slots;
+    walk = rw (no-gap (f .G) (f .O) (f .gaps)) at (f .walk);
+    suspended = s;
+    types = v .types;
+    serial = v .serial;
+    records = v .records;
+    store = v .store;
+    stack = runs f s;
+    bs = takes-off f .bs;
+    shape = takes-off f .stack;
+    has = takes-off f .has;
+    left = takes-off f .left;
+    marks = takes-off f .marks;
+    out = takes-off f .out;
+    owned = λ r. omega (arith, o r, ap (inValues r) (takes-off f .stack), held-rev r (takes-off f .vs) (takes-off f .under));
+  }
+
+  pub step-ok : (s : State) → StateOk t s → OutcomeOk t (DidAt t s) (step t (indexOf t) s)
+  unfolding act instruction
+  step-ok (state fs h st n) v = go fs (v .frames) (v .owned)
+    where
+      go : (fs : List Frame) → Stack t (indexOf t) (v .T) (v .W) fs → Owned fs h st → OutcomeOk t (DidAt t (state fs h st n)) (step t (indexOf t) (state fs h st n))
+      go fs (runs {id} {p} {i} {ops} {ls} {fs = gs} f s) o =
+          rw (effect-found f, instr f .flow .fit, takes-off f .found) (by-opcode (running v f s o) (rowAt (codeOf t (procedureIn (indexOf t) p)) i .a) (instr f .opcode) refl)
+
+  -- what comes up is ready
+  not-stuck : (C : List Cell → List Entry → Type 0) (o : Outcome) → OutcomeOk t C o → o ≡ stuck → ⊥
+  not-stuck C o k e = rw e at k
+
+  pub state-ready : (s : State) → StateOk t s → ReadyState t (indexOf t) s
+  state-ready (state fs h st n) v = go fs (v .frames) (step-ok (state fs h st n) v)
+    where
+      go : (fs : List Frame) → Stack t (indexOf t) (v .T) (v .W) fs → OutcomeOk t (DidAt t (state fs h st n)) (step t (indexOf t) (state fs h st n)) → ReadyState t (indexOf t) (state fs h st n)
+      go fs (runs {id} {p} {i} {ops} {ls} {fs = gs} f s) k = record {
+        procedure = f .there;
+        inside = f .inside;
+        fit = ap (λ (x : Effect). x .fit) (effect-found f) ∙ instr f .flow .fit;
+        operands = (takes-off f .vs, takes-off f .under, ap (λ (x : Effect). taken (x .takes) ops) (effect-found f) ∙ takes-off f .found);
+        moves = not-stuck (DidAt t (state (frame id p i ops ls ∷ gs) h st n)) (step t (indexOf t) (state (frame id p i ops ls ∷ gs) h st n)) k;
+      }

@@ -1,4 +1,0 @@
-pub mod Ownership
-pub mod Words
-pub mod Claim
-pub mod Callable

@@ -1,1 +1,0 @@
-// Demand 3 over the rules of running. No code.
