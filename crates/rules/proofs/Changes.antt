@@ -39,7 +39,7 @@ live-put [] i c x e = cc
 live-put (y ∷ h) zero c x e = let z : y ≡ x = cc in rw z (omega arith)
 live-put (y ∷ h) (suc i) c x e = omega (arith, live-put h i c x e)
 
-live-snoc : (h : List Cell) (c : Cell) → liveCount (h ++ (c ∷ [])) ≡ liveCount h + lives c
+pub live-snoc : (h : List Cell) (c : Cell) → liveCount (h ++ (c ∷ [])) ≡ liveCount h + lives c
 live-snoc [] c = omega arith
 live-snoc (y ∷ h) c = omega (arith, live-snoc h c)
 

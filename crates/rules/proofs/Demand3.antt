@@ -53,7 +53,7 @@ buried-lives (suc r) [] (c ∷ l) = buried-lives r [] l
 buried-lives zero (c ∷ h) l = refl
 buried-lives (suc r) (c ∷ h) l = buried-lives r h l
 
-buried-count : (h l : List Cell) → liveCount (h ++ map bury l) ≡ liveCount h
+pub buried-count : (h l : List Cell) → liveCount (h ++ map bury l) ≡ liveCount h
 buried-count [] [] = refl
 buried-count [] (gone y ∷ l) = omega (arith, buried-count [] l)
 buried-count [] (here y vs ∷ l) = omega (arith, buried-count [] l)
@@ -71,7 +71,7 @@ buried-cells t ix T [] (gone y ∷ l) a = also tt (buried-cells t ix T [] l none
 buried-cells t ix T [] (here y vs ∷ l) a = also tt (buried-cells t ix T [] l none-left)
 buried-cells t ix T (c ∷ h) l (also k a) = also k (buried-cells t ix T h l a)
 
-buried-dead : (h l : List Cell) (id y : ℕ) → length h ≤ id → ¬ (Exists (h ++ map bury l) id y)
+pub buried-dead : (h l : List Cell) (id y : ℕ) → length h ≤ id → ¬ (Exists (h ++ map bury l) id y)
 buried-dead [] [] id y b a = clash (cc (a .1))
 buried-dead [] (gone u ∷ l) zero y b a = clash (cc (a .1))
 buried-dead [] (here u vs ∷ l) zero y b a = clash (cc (a .1))
@@ -99,7 +99,7 @@ restored-rest t h h′ st v =
       owned = λ r. omega (arith, v .owned r, buried-held r h l, buried-lives r h l);
     }
 
-restored-length : (h h′ : List Cell) → length h ≤ length h′ → length h′ ≤ length (restored h h′)
+pub restored-length : (h h′ : List Cell) → length h ≤ length h′ → length h′ ≤ length (restored h h′)
 restored-length h h′ l = simp (length-append, length-map, length-drop) (omega arith)
 
 -- arguments are numbers
@@ -200,7 +200,7 @@ module _ (t : List ℕ) (J : Judged t (indexOf t)) where
   go-ok z (suc budget) s v l = onward-ok z s (step t (indexOf t) s) (go t (indexOf t) budget) v (step-ok t J s v) l (go-ok z budget)
 
   -- the state in which a call begins
-  begin-ok : (q budget : ℕ) (args : List ℕ) (h : List Cell) (st : List Entry) (n : ℕ) → Callable t (indexOf t) q budget args → Rest t h st → StateOk t (begin t (indexOf t) q args (base h st n))
+  pub begin-ok : (q budget : ℕ) (args : List ℕ) (h : List Cell) (st : List Entry) (n : ℕ) → Callable t (indexOf t) q budget args → Rest t h st → StateOk t (begin t (indexOf t) q args (base h st n))
   begin-ok q budget args h st n c v =
       let f = entered {T = v .T} {W = replicate n 0 ++ (q ∷ [])} J n q (c .there) (rw (length-replicate {A = ℕ} n 0) at (snoc-last (replicate n 0) q)) (map num args)
       (λ cs l. numbers-fit (parameterKinds t (procedureIn (indexOf t) q)) args cs (c .takes) (c .count) l (c .words)) in

@@ -30,21 +30,21 @@ ends-append (moment s r o ∷ es) es′ = omega (arith, ends-append es es′)
 ends-append (ended before s r o after ∷ es) es′ = omega (arith, ends-append es es′)
 
 -- what there is after two histories in a row
-last-append : (es es′ : List Event) (b : Base) → lastBase (es ++ es′) b ≡ lastBase es′ (lastBase es b)
+pub last-append : (es es′ : List Event) (b : Base) → lastBase (es ++ es′) b ≡ lastBase es′ (lastBase es b)
 unfolding lastBase
 last-append [] es′ b = refl
 last-append (moment s r o ∷ es) es′ b = last-append es es′ b
 last-append (ended before s r o after ∷ es) es′ b = last-append es es′ after
 
 -- where no call ends, nothing changes
-last-quiet : (es : List Event) (b : Base) → ends es ≡ 0 → lastBase es b ≡ b
+pub last-quiet : (es : List Event) (b : Base) → ends es ≡ 0 → lastBase es b ≡ b
 unfolding lastBase
 last-quiet [] b e = refl
 last-quiet (moment s r o ∷ es) b e = last-quiet es b e
 last-quiet (ended before s r o after ∷ es) b e = absurd (omega arith)
 
 -- the moments of a run: no call ends among them
-abbrev Quiet : Run → Type 0
+abbrev pub Quiet : Run → Type 0
 Quiet (ran es s r o) = ends es ≡ 0
 
 -- a moment before a run
@@ -60,7 +60,7 @@ module _ (t : List ℕ) (ix : Index) where
   onward-quiet s stuck rest q = refl
 
   -- all moments of a call
-  go-quiet : (budget : ℕ) (s : State) → Quiet (go t ix budget s)
+  pub go-quiet : (budget : ℕ) (s : State) → Quiet (go t ix budget s)
   unfolding go
   go-quiet zero s = refl
   go-quiet (suc budget) s = onward-quiet s (step t ix s) (go t ix budget) (go-quiet budget)

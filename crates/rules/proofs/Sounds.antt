@@ -16,21 +16,21 @@ use Rattle.rules.specs.Words.{Exists, NumberIn}
 use Rattle.rules.proofs.Changes.{clash, Change, same, wrote, packed, unpacked, published, withdrew}
 
 module _ {A : Type 0} where
-  nth-set : (h : List A) (a id : ℕ) (c d : A) → nth (set h a c) id ≡ some d → ((id ≡ a) × (c ≡ d)) ⊎ (nth h id ≡ some d)
+  pub nth-set : (h : List A) (a id : ℕ) (c d : A) → nth (set h a c) id ≡ some d → ((id ≡ a) × (c ≡ d)) ⊎ (nth h id ≡ some d)
   nth-set [] a id c d e = inr e
   nth-set (x ∷ h) zero zero c d e = inl (refl, cc)
   nth-set (x ∷ h) zero (suc id) c d e = inr e
   nth-set (x ∷ h) (suc a) zero c d e = inr e
   nth-set (x ∷ h) (suc a) (suc id) c d e = ⊎-elim (λ q. inl (ap suc (q .0), q .1)) (λ q. inr q) (nth-set h a id c d e)
 
-  nth-back : (h : List A) (a id : ℕ) (c d : A) → nth h id ≡ some d → ((id ≡ a) × (nth (set h a c) id ≡ some c)) ⊎ (nth (set h a c) id ≡ some d)
+  pub nth-back : (h : List A) (a id : ℕ) (c d : A) → nth h id ≡ some d → ((id ≡ a) × (nth (set h a c) id ≡ some c)) ⊎ (nth (set h a c) id ≡ some d)
   nth-back [] a id c d e = inr e
   nth-back (x ∷ h) zero zero c d e = inl (refl, refl)
   nth-back (x ∷ h) zero (suc id) c d e = inr e
   nth-back (x ∷ h) (suc a) zero c d e = inr e
   nth-back (x ∷ h) (suc a) (suc id) c d e = ⊎-elim (λ q. inl (ap suc (q .0), q .1)) (λ q. inr q) (nth-back h a id c d e)
 
-  nth-put : (h : List A) (a : ℕ) (c d : A) → nth (set h a c) a ≡ some d → c ≡ d
+  pub nth-put : (h : List A) (a : ℕ) (c d : A) → nth (set h a c) a ≡ some d → c ≡ d
   nth-put [] a c d e = absurd (clash (cc))
   nth-put (x ∷ h) zero c d e = cc
   nth-put (x ∷ h) (suc a) c d e = nth-put h a c d e
@@ -40,7 +40,7 @@ module _ {A : Type 0} where
   nth-app (x ∷ h) l zero d e = e
   nth-app (x ∷ h) l (suc id) d e = nth-app h l id d e
 
-  nth-snoc : (h : List A) (c : A) (id : ℕ) (d : A) → nth (h ++ (c ∷ [])) id ≡ some d → (nth h id ≡ some d) ⊎ (c ≡ d)
+  pub nth-snoc : (h : List A) (c : A) (id : ℕ) (d : A) → nth (h ++ (c ∷ [])) id ≡ some d → (nth h id ≡ some d) ⊎ (c ≡ d)
   nth-snoc [] c zero d e = inr (cc)
   nth-snoc [] c (suc id) d e = absurd (clash (cc))
   nth-snoc (x ∷ h) c zero d e = inl e

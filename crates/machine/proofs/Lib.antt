@@ -1,0 +1,6 @@
+pub mod Shows
+pub mod Targets
+pub mod Simulates
+pub mod Runs
+pub mod Lists
+pub mod Views

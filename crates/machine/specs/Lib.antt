@@ -1,0 +1,5 @@
+pub mod Machine
+pub mod Represents
+pub mod Runs
+pub mod Lists
+pub mod Views
