@@ -3,19 +3,18 @@ use Prim.Native.Nat.{ℕ, zero, suc, _+_, _-_, _<_, _≤_}
 use mathlib.Core.Path.{_≡_, refl, sym, ap, _∙_}
 use mathlib.Core.Bool.{Bool, true, false, cond}
 use mathlib.Core.List.{List, [], _∷_, _++_}
-use mathlib.Core.Option.{Option, none, some}
+use mathlib.Core.Option.{none, some}
 use native.Mathlib.Numerals.{add-one, sub-one}
-use native.Mathlib.Nat.{add-zero}
 use native.Mathlib.Decide.{decLt}
 use native.Mathlib.Omega.{arith}
 use borrow.Author.Tests.{lt-ltb, le-ltb}
-use lib.ListN.{length, getD, set, take, drop, replicate, length-set, length-drop, length-append, length-replicate, List·getD-append}
+use lib.ListN.{length, getD, set, take, drop, length-set, length-drop, List·getD-append}
 use lib.Seq.{paste, paste-zero, length-paste, length-paste-head, length-take-le, getD-set-same, getD-set-other, getD-append-add, getD-take, getD-drop, set-out}
 use Rattle.rules.specs.Limits.{maxEntries}
 use Rattle.cells.specs.declared.Entry.{Entry}
-use Rattle.machine.specs.Machine.{MEntry, mentry, findEntry, dropEntry}
+use Rattle.machine.specs.Machine.{MEntry, findEntry, dropEntry}
 use Rattle.memory.specs.declared.Store.{Store}
-use Rattle.memory.specs.Entries.{blank, places, isUnder, lastUnder, found, added, removed}
+use Rattle.memory.specs.Entries.{blank, emptyStore, places, isUnder, lastUnder, found, added, removed}
 use Rattle.memory.specs.Views.{entryOf, newestFirst, entriesOf, Sized}
 use Rattle.memory.proofs.Laws.{places-few, places-most}
 
@@ -123,10 +122,13 @@ module _ (es : List Entry) (y a absent : ℕ) where
           ∙ getD-drop (k + 1) es (j - k) blank
           ∙ ap (λ (x : ℕ). getD es x blank) r
 
--- an empty store
-pub empty-view : (es : List Entry) → newestFirst es 0 ≡ []
+-- the store with no entry
+pub empty-view : entriesOf emptyStore ≡ []
 unfolding newestFirst
-empty-view es = refl
+empty-view = refl
+
+pub empty-sized : Sized emptyStore
+empty-sized = record { low = omega arith; whole = refl }
 
 module _ (s : Store) where
   -- how many entries there are

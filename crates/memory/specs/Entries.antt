@@ -3,7 +3,7 @@ use Prim.Native.Nat.{ℕ, zero, suc, _+_, _-_}
 use mathlib.Core.Bool.{Bool, cond, _&&_}
 use mathlib.Core.List.{List}
 use lib.Dec.{eqb, leb, ltb}
-use lib.ListN.{getD, set, drop}
+use lib.ListN.{getD, set, drop, replicate}
 use lib.Seq.{paste}
 use Rattle.rules.specs.Limits.{maxEntries}
 use Rattle.cells.specs.declared.Entry.{Entry}
@@ -12,6 +12,10 @@ use Rattle.memory.specs.declared.Store.{Store}
 -- what stands in a place with no entry
 abbrev pub blank : Entry
 blank = record { kind = 0; address = 0; serial = 0; room = 0 }
+
+-- the store with no entry
+abbrev pub emptyStore : Store
+emptyStore = record { entries = replicate maxEntries blank; count = 0 }
 
 -- n, at most as many as there are places
 unfoldable pub places : ℕ → ℕ

@@ -1,5 +1,5 @@
 use Prim.Native.Nat.{_+_, _-_, _≤_}
-use mathlib.Core.Path.{_≡_, refl, sym, _∙_}
+use mathlib.Core.Path.{_≡_, sym, _∙_}
 use lib.ListN.{length, drop}
 use borrow.Author.Tests.{not-true, not-false}
 use Rattle.memory.specs.Rooms.{firstFree}
@@ -8,8 +8,6 @@ use borrow.Author.Needs.{needs}
 use native.Mathlib.Omega.{arith}
 use Rattle.memory.proofs.free_room.Statement.{statement}
 use Rattle.memory.proofs.free_room.Tie as tie
-use Rattle.memory.proofs.free_room.Reads as reads
-use Rattle.memory.proofs.free_room.Lts as lts
 
 abbrev Inv-loop : tie.InvT-loop
 Inv-loop used i₀ i = (i ≤ length used) × (i + firstFree (drop i used) ≡ firstFree used)

@@ -1,12 +1,8 @@
 use mathlib.Core.Bool.{false}
-use mathlib.Core.Path.{_≡_, sym}
-use lib.ListN.{getD, List·getD-eq-default}
-use native.Mathlib.Omega.{arith}
+use lib.ListN.{List·getD-eq-default}
 use borrow.Author.Needs.{needs}
 use Rattle.memory.proofs.holds.Statement.{statement}
 use Rattle.memory.proofs.holds.Tie as tie
-use Rattle.memory.proofs.holds.Reads as reads
-use Rattle.memory.proofs.holds.Lts as lts
 
 returns : tie.Need-returns
 returns c = rw (List·getD-eq-default (c .before .args .used .now) false (c .if1 .taken))

@@ -1,10 +1,6 @@
-use native.Mathlib.Omega.{arith}
 use borrow.Author.Tests.{eq-eqb, ne-eqb}
-use borrow.Author.Needs.{needs}
 use Rattle.memory.proofs.is_under.Statement.{statement}
 use Rattle.memory.proofs.is_under.Tie as tie
-use Rattle.memory.proofs.is_under.Reads as reads
-use Rattle.memory.proofs.is_under.Lts as lts
 
 returns : tie.Need-returns
 returns c = rw (eq-eqb _ _ (c .before .if1 .taken))

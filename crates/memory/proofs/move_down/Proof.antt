@@ -8,8 +8,6 @@ use borrow.Author.Needs.{needs}
 use native.Mathlib.Omega.{arith}
 use Rattle.memory.proofs.move_down.Statement.{statement}
 use Rattle.memory.proofs.move_down.Tie as tie
-use Rattle.memory.proofs.move_down.Reads as reads
-use Rattle.memory.proofs.move_down.Lts as lts
 
 abbrev Inv-loop : tie.InvT-loop
 Inv-loop at k entries moved₀ i₀ moved i = (i ≤ k) × (moved ≡ paste moved₀ at (drop (at + 1) entries) i)

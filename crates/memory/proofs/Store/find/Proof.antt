@@ -1,15 +1,11 @@
 use Prim.Native.Nat.{_-_, _≤_}
-use mathlib.Core.Path.{_≡_, refl, sym, _∙_}
+use mathlib.Core.Path.{_≡_, sym, _∙_}
 use Rattle.memory.specs.Entries.{places, lastUnder, found}
 use Rattle.memory.proofs.Laws.{places-most, under-here, under-next, under-none}
 use borrow.Author.Needs.{needs}
 use native.Mathlib.Omega.{arith}
 use Rattle.memory.proofs.Store.find.Statement.{statement}
 use Rattle.memory.proofs.Store.find.Tie as tie
-use Rattle.memory.proofs.Store.find.Reads as reads
-use Rattle.memory.proofs.Store.find.Lts as lts
-use Rattle.memory.proofs.is_under.Reads as is-under-reads
-use Rattle.memory.proofs.places.Reads as places-reads
 
 abbrev Inv-loop : tie.InvT-loop
 Inv-loop kind address self i₀ i = (i ≤ 64) × (lastUnder (self .entries) kind address (self .count) i ≡ found self kind address)

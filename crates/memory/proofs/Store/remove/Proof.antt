@@ -1,5 +1,5 @@
-use Prim.Native.Nat.{_+_, _-_, _≤_}
-use mathlib.Core.Path.{_≡_, sym, ap}
+use Prim.Native.Nat.{_+_, _-_}
+use mathlib.Core.Path.{_≡_}
 use native.Mathlib.Omega.{arith}
 use borrow.Author.Needs.{needs}
 use borrow.Author.Tests.{lt-ltb, le-ltb}
@@ -9,11 +9,6 @@ use Rattle.memory.specs.Entries.{places}
 use Rattle.memory.proofs.Laws.{places-most}
 use Rattle.memory.proofs.Store.remove.Statement.{statement}
 use Rattle.memory.proofs.Store.remove.Tie as tie
-use Rattle.memory.proofs.Store.remove.Reads as reads
-use Rattle.memory.proofs.Store.remove.Lts as lts
-use Rattle.memory.proofs.less.Reads as less-reads
-use Rattle.memory.proofs.move_down.Reads as move-down-reads
-use Rattle.memory.proofs.places.Reads as places-reads
 
 places-requires : tie.Need-places-requires
 places-requires c κs = search needs
