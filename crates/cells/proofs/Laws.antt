@@ -1,6 +1,7 @@
 -- Laws of reading and storing in cells, as the code does it.
 use Prim.Native.Nat.{ℕ, _+_, _-_, _<_, _≤_}
-use mathlib.Core.Path.{_≡_, sym, ap, _∙_}
+use mathlib.Core.Path.{_≡_, refl, sym, ap, _∙_}
+use mathlib.Core.Bool.{Bool, true, false, cond}
 use mathlib.Core.List.{List, map}
 use native.Mathlib.Numerals.{add-one}
 use native.Mathlib.Decide.{decLt}
@@ -20,6 +21,10 @@ unmapped f l n e = sym (length-map l f) ∙ e
 -- past the end nothing is held
 pub held-out : (cs : List Cell) (i : ℕ) → length cs ≤ i → Empty ≡ getD cs i empty .v
 held-out cs i h = ap (λ (c : Cell). c .v) (sym (List·getD-eq-default cs empty h))
+
+pub none-held : (b : Bool) (cs : List Cell) (i : ℕ) → length cs ≤ i → Empty ≡ cond b (getD cs i empty .v) Empty
+none-held true cs i h = held-out cs i h
+none-held false cs i h = refl
 
 -- one cell more is copied: number j, from b to a
 pub copy-more : {A : Type 0} (d s : List A) (at base j a b : ℕ) (z : A) (cells : List A) → cells ≡ paste d at (drop base s) j → a ≡ at + j → b ≡ base + j → a < length d → b < length s
@@ -44,6 +49,9 @@ within-most k limit = go (decLt limit k)
     go (yes h) = rw (within-no k limit h) (omega arith)
     go (no h) = rw (within-yes k limit (omega arith)) (omega arith)
 
+pub within-low : (k limit r : ℕ) → r ≡ within k limit → (r ≤ k) × (r ≤ limit)
+within-low k limit r e = rw e (within-most k limit)
+
 -- the top n operands, no more than are taken, lie in the array
 pub taking-lies : (f : Frame) (k n : ℕ) → n ≤ taking f k → (n ≤ f .height) × (n ≤ frameCells - (f .height - n))
 unfolding taking
@@ -55,3 +63,6 @@ taking-lies f k n l = go (decLt frameCells (f .height))
     go : Dec (frameCells < f .height) → (n ≤ f .height) × (n ≤ frameCells - (f .height - n))
     go (yes h) = omega (arith, m, within-no (f .height) frameCells h)
     go (no h) = omega (arith, m, within-yes (f .height) frameCells (omega arith))
+
+pub taken-lies : (f : Frame) (k r : ℕ) → r ≡ taking f k → (r ≤ f .height) × (r ≤ frameCells - (f .height - r))
+taken-lies f k r e = taking-lies f k r (omega (arith, e))

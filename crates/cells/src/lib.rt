@@ -116,10 +116,10 @@ impl Frame {
     pub fn local(self, l: usize) -> Operand
         ensures { λ r. ⌜ r ≡ localAt self l ⌝ }
     {
-        if self.count <= l {
+        if 16 <= l {
             return Operand::Empty;
         }
-        if 16 <= l {
+        if self.count <= l {
             return Operand::Empty;
         }
         let c = self.locals[l];
@@ -213,10 +213,10 @@ impl Room {
     pub fn field(self, j: usize) -> Operand
         ensures { λ r. ⌜ r ≡ fieldAt self j ⌝ }
     {
-        if self.count <= j {
+        if 8 <= j {
             return Operand::Empty;
         }
-        if 8 <= j {
+        if self.count <= j {
             return Operand::Empty;
         }
         let c = self.fields[j];

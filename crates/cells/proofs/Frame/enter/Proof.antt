@@ -1,4 +1,4 @@
-use Rattle.cells.proofs.Laws.{taking-lies}
+use Rattle.cells.proofs.Laws.{taken-lies}
 use native.Mathlib.Omega.{arith}
 use borrow.Author.Needs.{needs}
 use Rattle.cells.proofs.Frame.enter.Statement.{statement}
@@ -11,11 +11,7 @@ less-requires : tie.Need-less-requires
 less-requires c κs = search needs
 
 copy-requires : tie.Need-copy-requires
-copy-requires c κs =
-    let a = c .before .before .before .args in
-    let e = c .before .before .taking .ensures in
-    let l = taking-lies (a .self) (a .k) (c .before .before .taking .result) (omega (arith, e)) in
-    omega (arith, l, c .less .ensures)
+copy-requires c κs = omega (arith, taken-lies _ _ _ (c .before .before .taking .ensures), c .less .ensures)
 
 within-requires : tie.Need-within-requires
 within-requires c κs = search needs

@@ -1,5 +1,5 @@
 use Rattle.cells.specs.Parts.{unpackedCount}
-use Rattle.cells.proofs.Laws.{within-most}
+use Rattle.cells.proofs.Laws.{within-low}
 use native.Mathlib.Omega.{arith}
 use borrow.Author.Needs.{needs}
 use Rattle.cells.proofs.Frame.unpack.Statement.{statement}
@@ -16,14 +16,14 @@ within-requires-2 c κs = search needs
 
 copy-fields-requires : tie.Need-copy-fields-requires
 copy-fields-requires c κs =
-    let m = within-most (c .before .before .before .before .within .result) (c .before .before .before .less .result) in
-    let l = within-most (c .before .before .before .before .before .args .room .count) 8 in
-    omega (arith, m, l, c .before .before .within2 .ensures, c .before .before .before .less .ensures, c .before .before .before .before .within .ensures)
+    let l = within-low _ _ _ (c .before .before .before .before .within .ensures) in
+    let m = within-low _ _ _ (c .before .before .within2 .ensures) in
+    omega (arith, l, m, c .before .before .before .less .ensures)
 
 add-self : tie.Need-add-self
 add-self c =
-    let m = within-most (c .before .before .before .before .before .within .result) (c .before .before .before .before .less .result) in
-    omega (arith, m, c .before .before .before .within2 .ensures, c .before .before .before .before .less .ensures)
+    let m = within-low _ _ _ (c .before .before .before .within2 .ensures) in
+    omega (arith, m, c .before .before .before .before .less .ensures)
 
 returns : tie.Need-returns
 unfolding unpackedCount

@@ -1,0 +1,14 @@
+-- `stores::places` meets its contract.
+use mathlib.Core.Path.{sym}
+use Rattle.memory.proofs.Laws.{places-few, places-full}
+use Rattle.stores.proofs.places.Statement.{statement}
+use Rattle.stores.proofs.places.Tie as tie
+
+returns : tie.Need-returns
+returns c = sym (places-few _ (c .if1 .taken))
+
+returns-2 : tie.Need-returns-2
+returns-2 c = sym (places-full _ (c .if1 .left))
+
+pub places-spec : {M : Type 1} → statement M
+places-spec = tie.close (tie.spec returns returns-2)

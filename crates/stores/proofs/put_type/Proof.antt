@@ -1,0 +1,28 @@
+-- `stores::put_type` meets its contract: the space and the parenthesis, and then the type.
+use borrow.Author.Needs.{needs}
+use Rattle.rules.specs.Ascii.{ascii}
+use Rattle.rules.specs.Text.{decimal}
+use Rattle.text.proofs.Placing.{puts-more}
+use Rattle.stores.proofs.put_type.Statement.{statement}
+use Rattle.stores.proofs.put_type.Tie as tie
+
+slice-aggregate-put-word : tie.Need-slice-aggregate-put-word
+slice-aggregate-put-word c = search needs
+
+put-word-requires : tie.Need-put-word-requires
+put-word-requires c κs = search needs
+
+put-decimal-requires : tie.Need-put-decimal-requires
+put-decimal-requires c κs = search needs
+
+same-length : tie.Need-same-length
+same-length c = search needs
+
+returns : tie.Need-returns
+unfolding ascii
+returns c = puts-more _ _ (ascii " (") (decimal (c .before .before .before .before .before .before .before .before .before .before .args .kind)) _ _ (c .before .before .before .before .before .before .put-word .ensures) (c .before .before .put-decimal .ensures)
+
+pub put-type-spec : {M : Type 1} → statement M
+put-type-spec =
+    tie.close
+    (tie.spec slice-aggregate-put-word put-word-requires put-decimal-requires same-length returns)
