@@ -6,9 +6,9 @@ use mathlib.Core.List.{List, [], _∷_, _++_, map, append-assoc, append-nil}
 use mathlib.Core.Option.{Option, none, some}
 use native.Mathlib.Numerals.{add-one, unary-clauses}
 use native.Mathlib.Omega.{arith}
-use lib.Dec.{eqb, leb}
+use lib.Dec.{eqb}
 use lib.ListN.{length, getD, take, getElem? as nth}
-use lib.Seq.{take-suc, take-all}
+use lib.Seq.{take-all}
 use Rattle.rules.specs.Ascii.{ascii}
 use Rattle.rules.specs.Text.{decimal, spaced}
 use Rattle.cells.specs.declared.Reference.{Reference}
@@ -19,8 +19,8 @@ use Rattle.cells.specs.declared.Room.{Room}
 use Rattle.cells.specs.declared.Entry.{Entry}
 use Rattle.cells.specs.Parts.{empty}
 use Rattle.cells.specs.Views.{content, firstOf, fieldsOf}
-use Rattle.machine.specs.Machine.{MRoom, mroom, MEntry, roomOf}
-use Rattle.machine.specs.Lists.{mvalues, mfields, fieldsOfRoom, mentryLine, mentryLines}
+use Rattle.machine.specs.Machine.{MRoom, roomOf}
+use Rattle.machine.specs.Lists.{mvalues, mfields, mentryLine, mentryLines}
 use Rattle.machine.specs.Views.{roomView}
 use Rattle.memory.specs.Rooms.{isHeld}
 use Rattle.memory.specs.declared.Store.{Store}
@@ -30,11 +30,12 @@ use Rattle.memory.proofs.Laws.{places-few}
 use Rattle.text.specs.Placing.{placed}
 use Rattle.text.proofs.Placing.{Puts, placed-append}
 
--- what is in room r: nothing past the last room, and nothing in a room that is not in use by record s
+-- a room is record s's if it is in use and has its serial number
 room-in-use : (u : Bool) (m : Room) (s : ℕ) → roomOf (some (cond u (some (roomView m)) none)) s ≡ cond (u && eqb (m .serial) s) (some (roomView m)) none
 room-in-use false m s = refl
 room-in-use true m s = refl
 
+-- what is in room r for record s: nothing past the last room
 pub room-past : (ms : List Room) (us : List Bool) (r : ℕ) → length ms ≤ r → nth (roomsOf roomView ms us) r ≡ none
 unfolding roomsOf
 room-past [] us r l = refl

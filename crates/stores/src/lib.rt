@@ -16,9 +16,10 @@ use cells::Operand;
 use cells::Room;
 use table::format;
 
-// How many rooms there are, and the most entries of the store.
+// The rooms of the machine.
 const ROOMS: usize = 128;
 
+// The most entries of the store.
 const PLACES: usize = 64;
 
 // Puts a space and a number.
@@ -49,7 +50,7 @@ fn field_count(m: Room) -> usize
     }
 }
 
-// Puts what a field holds: a number, or a nested record of at most `depth` levels.
+// Puts what a field holds: a number, or a nested record, its fields down to `depth` levels.
 fn put_operand(
     text: &mut [u8],
     at: usize,
@@ -72,7 +73,7 @@ fn put_operand(
     }
 }
 
-// Puts the fields of the record with this serial number, if the room is in use by it.
+// Puts the fields of the record with this serial number, if the room is in use by it, down to `depth` levels.
 fn put_fields(
     text: &mut [u8],
     at: usize,
@@ -133,7 +134,7 @@ pub fn put_entry(
     text::put_byte(text, end, b'\n')
 }
 
-// Puts the lines of the first `count` entries, the last of them first; of all where there are not so many.
+// Puts the lines of the first `count` entries, the newest, which is the last, first; of all where there are not so many.
 pub fn put_entries(
     text: &mut [u8],
     at: usize,

@@ -1,6 +1,6 @@
 -- Laws of turns: sums that fit, and what the lists of turns have by number.
 use Prim.Native.Nat.{ℕ, _+_, _-_, _<_, _≤_}
-use mathlib.Core.Path.{_≡_, refl, ap, sym, _∙_}
+use mathlib.Core.Path.{_≡_, ap, sym, _∙_}
 use mathlib.Core.Bool.{cond}
 use native.Mathlib.Omega.{arith}
 use borrow.Author.Tests.{lt-ltb, le-ltb}
@@ -11,7 +11,6 @@ use Rattle.rules.specs.Limits.{pastNumbers, outOfRange}
 use Rattle.cells.specs.declared.Operand.the-variants.{Number}
 use Rattle.cells.specs.declared.Frame.{Frame}
 use Rattle.turns.specs.declared.Ask.the-variants.{Stop, Broken}
-use Rattle.turns.specs.declared.Turn.{Turn}
 use Rattle.turns.specs.Turns.{asking, pushing, resting, calculations, calculated, turnings, turned}
 
 -- the largest number of 64 bits
@@ -47,3 +46,8 @@ module _ (f : Frame) (row : Row) (takes kind depth : ℕ) where
   pub unlisted : 20 ≤ row .a → asking f Broken ≡ turned f row takes kind depth
   unfolding turned turnings
   unlisted h = sym (List·getD-eq-default (turnings f (resting f takes) (row .b) (row .d) kind depth) (asking f Broken) h)
+
+-- a fact and the facts after it
+infixr 5 _▸_
+abbrev pub _▸_ : {A B : Type 0} → A → B → A × B
+a ▸ b = (a, b)

@@ -7,7 +7,6 @@ use lib.ListN.{getD}
 use Rattle.table.specs.declared.Row.{Row}
 use Rattle.rules.specs.Limits.{pastNumbers, outOfRange}
 use Rattle.rules.specs.Step.{truth}
-use Rattle.cells.specs.declared.Reference.{Reference}
 use Rattle.cells.specs.declared.Reference.the-variants.{Local}
 use Rattle.cells.specs.declared.Operand.{Operand}
 use Rattle.cells.specs.declared.Operand.the-variants.{Empty, Number, Record, Refer}

@@ -80,7 +80,9 @@ put-fields-returns : (t : ℕ) → put-fields-lts.Need-returns (
   put-operand-below t,
   put-operand.Post,
 ) (put-fields-at t) put-fields.Post put-fields-Inv-loop put-fields-μ-loop
-put-fields-returns t c = puts-same _ _ (fields-none _ _ _ _ _ (c .if1 .taken)) (puts-none _ _)
+put-fields-returns t c =
+    let z : c .before .before .before .args .depth ≡ 0 = omega arith in
+    puts-same _ _ (fields-none _ _ _ _ _ z) (puts-none _ _)
 
 put-fields-returns-2 : (t : ℕ) → put-fields-lts.Need-returns-2 (
   holds-reads.Asked,

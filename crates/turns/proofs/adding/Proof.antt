@@ -1,5 +1,5 @@
 use native.Mathlib.Omega.{arith}
-use mathlib.Core.Path.{_≡_, _∙_}
+use mathlib.Core.Path.{_∙_}
 use Rattle.turns.proofs.Laws.{fits, over}
 use borrow.Author.Needs.{needs}
 use Rattle.turns.proofs.adding.Statement.{statement}

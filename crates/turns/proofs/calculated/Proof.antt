@@ -1,4 +1,4 @@
-use mathlib.Core.Path.{_≡_, _∙_}
+use mathlib.Core.Path.{_∙_}
 use Rattle.kinds.proofs.Laws.{above}
 use Rattle.turns.proofs.Laws.{calculates, calculates-none}
 use borrow.Author.Needs.{needs}

@@ -1,5 +1,4 @@
 use borrow.Author.Tests.{lt-ltb, le-ltb}
-use borrow.Author.Needs.{needs}
 use Rattle.turns.proofs.less.Statement.{statement}
 use Rattle.turns.proofs.less.Tie as tie
 

@@ -1,4 +1,4 @@
-use mathlib.Core.Path.{_≡_, ap₂, _∙_}
+use mathlib.Core.Path.{ap₂, _∙_}
 use Rattle.cells.specs.Parts.{goneTo}
 use borrow.Author.Needs.{needs}
 use Rattle.turns.proofs.resting.Statement.{statement}

@@ -1,4 +1,4 @@
-use mathlib.Core.Path.{_≡_, ap, ap₂, _∙_}
+use mathlib.Core.Path.{ap, ap₂, _∙_}
 use Rattle.kinds.proofs.Laws.{above}
 use Rattle.cells.specs.declared.Frame.{Frame}
 use Rattle.turns.specs.declared.Ask.the-variants.{Go}
