@@ -1,0 +1,4 @@
+pub mod Frames
+pub mod Leads
+pub mod Meaning
+pub mod Results
