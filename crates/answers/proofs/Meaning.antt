@@ -149,21 +149,21 @@ module _ (b takes others : ℕ) (fs : List MFrame) (rooms : List (Option MRoom))
       ap (λ (o : Option MRoom). fieldsFrom o λ (xs : List Operand). mnext (mstate (onFrame (frameOf g) xs) fs (set rooms r none) recs es n)) (y .lives)
       ∙ unpack-live b takes others 0 fs rooms recs es n m g r live
   answer-means (Publish s r a) y =
-      ap (λ (o : Option MEntry). underEntry o (cond (ltb (length es) maxEntries) (mnext (mstate (frameOf g) fs rooms recs (mentry b a s r ∷ es) n)) (mstopped tooManyEntries)) λ (s′ r′ : ℕ). mstopped keyTaken) (y .found)
+      ap (λ (o : Option MEntry). underEntry o (cond (ltb (length es) maxEntries) (mnext (mstate (frameOf g) fs rooms recs (mentry b a s r ∷ es) n)) (mstopped tooManyEntries)) λ (s′ r′ : ℕ). mstopped keyTaken) (y .found tt)
       ∙ publish-has b takes others a fs rooms recs es n m g s r e has (ltb (length es) maxEntries)
-      ∙ ap (λ (v : Bool). doneNext b takes others a fs rooms recs es n m g (published has v (entry b a s r))) (sym (y .full-is))
+      ∙ ap (λ (v : Bool). doneNext b takes others a fs rooms recs es n m g (published has v (entry b a s r))) (sym (y .full-is tt))
       ∙ ap (λ (i : ℕ). doneNext b takes others a fs rooms recs es n m g (published has full (entry i a s r))) (byte (y .fits))
   answer-means (Withdraw a) y =
-      ap (λ (o : Option MEntry). underEntry o (mstopped noSuchKey) λ (s r : ℕ). mnext (mstate (onFrame (frameOf g) (Record s r b ∷ [])) fs rooms recs (dropEntry es b a) n)) (y .found)
+      ap (λ (o : Option MEntry). underEntry o (mstopped noSuchKey) λ (s r : ℕ). mnext (mstate (onFrame (frameOf g) (Record s r b ∷ [])) fs rooms recs (dropEntry es b a) n)) (y .found tt)
       ∙ withdraw-has b takes others a fs rooms recs es n m g (y .sized) (y .fits .0) e has
       ∙ ap (λ (i : ℕ). doneBy b takes others a fs rooms recs es n m (withdrawn g has e i)) (byte (y .fits .1))
   answer-means (Global a) y =
-      ap (λ (o : Option MEntry). underEntry o (mstopped noSuchKey) λ (s r : ℕ). going b takes others fs rooms recs es n (onFrame (frameOf g) (Refer (Whole s r b) ∷ []))) (y .found)
+      ap (λ (o : Option MEntry). underEntry o (mstopped noSuchKey) λ (s r : ℕ). going b takes others fs rooms recs es n (onFrame (frameOf g) (Refer (Whole s r b) ∷ []))) (y .found tt)
       ∙ global-has b takes others a fs rooms recs es n m g (y .sized) (y .fits .0) e has
       ∙ ap (λ (i : ℕ). doneBy b takes others a fs rooms recs es n m (global g has e i)) (byte (y .fits .1))
   answer-means (Exists a) y =
-      ap (λ (o : Option MEntry). underEntry o (going b takes others fs rooms recs es n (onFrame (frameOf g) (Number 0 ∷ []))) λ (s r : ℕ). going b takes others fs rooms recs es n (onFrame (frameOf g) (Number 1 ∷ []))) (y .found)
-      ∙ exists-has b takes others a fs rooms recs es n m g (y .sized) (y .fits) e has
+      ap (λ (o : Option MEntry). underEntry o (going b takes others fs rooms recs es n (onFrame (frameOf g) (Number 0 ∷ []))) λ (s r : ℕ). going b takes others fs rooms recs es n (onFrame (frameOf g) (Number 1 ∷ []))) (y .found tt)
+      ∙ exists-has b takes others a fs rooms recs es n m g (y .sized) (y .fits .0) e has
   answer-means Call y = refl
   answer-means Ret y = refl
   answer-means Broken y = refl

@@ -70,6 +70,6 @@ module _ (g : Frame) (below : List Frame) (n : ℕ) (ms : List Room) (us : List 
     fits = h;
     names = names-at g below n (referenceOf ask);
     lives = lives-held ms us z operandNamed e;
-    found = entry-found s q b (addressOf ask);
-    full-is = full-store s q;
+    found = λ k. entry-found s q b (addressOf ask);
+    full-is = λ k. full-store s q;
   }

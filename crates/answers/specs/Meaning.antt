@@ -90,10 +90,27 @@ Fits g b (Unpack s r) = Unit
 Fits g b (Publish s r a) = b < 256
 Fits g b (Withdraw a) = (g .height < frameCells) × (b < 256)
 Fits g b (Global a) = (g .height < frameCells) × (b < 256)
-Fits g b (Exists a) = g .height < frameCells
+Fits g b (Exists a) = (g .height < frameCells) × (b < 256)
 Fits g b Call = Unit
 Fits g b Ret = Unit
 Fits g b Broken = Unit
+
+-- whether an answer is given under a key: only then is the store looked at
+abbrev pub Keyed : Ask → Type 0
+Keyed Go = ⊥
+Keyed (Stop k) = ⊥
+Keyed (Read r) = ⊥
+Keyed (Write r x) = ⊥
+Keyed (Borrow r) = ⊥
+Keyed Pack = ⊥
+Keyed (Unpack s r) = ⊥
+Keyed (Publish s r a) = Unit
+Keyed (Withdraw a) = Unit
+Keyed (Global a) = Unit
+Keyed (Exists a) = Unit
+Keyed Call = ⊥
+Keyed Ret = ⊥
+Keyed Broken = ⊥
 
 -- what holds where an answer is given: h is the frame that the reference names, m what is in the room of the record that is named, e the entry under the key
 pub record Answerable (g h : Frame) (ask : Ask) (m : Room) (live has full : Bool) (e : Entry) (b : ℕ) (fs : List MFrame) (rooms : List (Option MRoom)) (es : List MEntry) : Type 0 where
@@ -101,8 +118,8 @@ pub record Answerable (g h : Frame) (ask : Ask) (m : Room) (live has full : Bool
   pub fits : Fits g b ask
   pub names : Names (frameOf g ∷ fs) (referenceOf ask) (namedBy (referenceOf ask) h)
   pub lives : Lives rooms (namedBy (referenceOf ask) h) m live
-  pub found : findEntry es b (addressOf ask) ≡ cond has (some (entryOf e)) none
-  pub full-is : full ≡ not (ltb (length es) maxEntries)
+  pub found : Keyed ask → findEntry es b (addressOf ask) ≡ cond has (some (entryOf e)) none
+  pub full-is : Keyed ask → full ≡ not (ltb (length es) maxEntries)
 
 -- operands that are all numbers
 abbrev pub Numbers : List Operand → Type 0

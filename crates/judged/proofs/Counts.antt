@@ -62,13 +62,13 @@ module _ (k : ℕ) (number : Above → ℕ) (carried : (s : Above) (row : Row) �
       go true e ih = number-next i ∙ rw (e, count-yes (isKind t k) i e, ih)
       go false e ih = number-next i ∙ rw (e, free, count-no (isKind t k) i e, ih)
 
--- procedures are numbered through the table
-no-owner : (kind : ℕ) → member procedureKind (getD owned kind []) ≡ false
-unfolding every owned member
-no-owner kind = go (decLt kind 9)
+-- a kind whose rows are numbered through the table
+no-owner : (k : ℕ) → every (λ (i : ℕ). not (member k (getD owned i []))) 9 ≡ true → (kind : ℕ) → member k (getD owned kind []) ≡ false
+unfolding owned member
+no-owner k free kind = go (decLt kind 9)
   where
-    go : Dec (kind < 9) → member procedureKind (getD owned kind []) ≡ false
-    go (yes h) = not-true _ (every-at (λ (i : ℕ). not (member procedureKind (getD owned i []))) 9 kind refl h)
+    go : Dec (kind < 9) → member k (getD owned kind []) ≡ false
+    go (yes h) = not-true _ (every-at (λ (i : ℕ). not (member k (getD owned i []))) 9 kind free h)
     go (no h) = rw (List·getD-eq-default owned [] {n = kind} (omega arith))
 
 -- a row that passes no limit has fewer of its kind above
@@ -83,17 +83,27 @@ module _ (t : List ℕ) (fine : (i : ℕ) → i < rowCount t → faultAt t i ≡
   unfolding faultAt
   tests i h = let r = row-tests (aboveAt t i) (rowAt t i) (fine i h) in (r .0, r .2)
 
-  -- the number of a procedure is below 128
-  pub procedure-few : (q : ℕ) → q < indexOf t .procedures → q < 128
-  unfolding indexOf isKind kindAt aboveAt belowRow limits countOf
-  procedure-few q there =
-      let r = nth (isKind t procedureKind) (indexedRows t) q in
-      let k : rowAt t r .kind ≡ 4 = eqb-true _ _ (nth-hit (isKind t procedureKind) (indexedRows t) q there) in
-      let b = nth-below (isKind t procedureKind) (indexedRows t) q there in
+  -- where rows are numbered through the table, their numbers are below the limit
+  number-few : (k : ℕ) (number : Above → ℕ) → ((s : Above) (row : Row) → number (belowRow s row) ≡ countBelow k (row .kind) (number s)) → number (aboveAt t 0) ≡ 0
+      → every (λ (i : ℕ). not (member k (getD owned i []))) 9 ≡ true → ((s : Above) → countOf s k ≡ number s) → (q : ℕ) → q < count (isKind t k) (indexedRows t) → q < getD limits k 0
+  unfolding isKind kindAt
+  number-few k number carried start free counts q there =
+      let r = nth (isKind t k) (indexedRows t) q in
+      let e : rowAt t r .kind ≡ k = eqb-true _ _ (nth-hit (isKind t k) (indexedRows t) q there) in
+      let b = nth-below (isKind t k) (indexedRows t) q there in
       let l = low (aboveAt t r) (rowAt t r) (tests r (omega (arith, b)) .0) in
-      let m : aboveAt t r .procedures < 128 = rw k at l in
-      let c = number-count procedureKind (λ (s : Above). s .procedures) (λ s row. refl) t refl no-owner r in
-      omega (arith, m, c, count-nth (isKind t procedureKind) (indexedRows t) q there)
+      let m : countOf (aboveAt t r) k < getD limits k 0 = rw e at l in
+      let c = number-count k number carried t start (no-owner k free) r in
+      omega (arith, m, counts (aboveAt t r), c, count-nth (isKind t k) (indexedRows t) q there)
+
+  -- the number of a procedure is below 128, that of a type below 64
+  pub procedure-few : (q : ℕ) → q < indexOf t .procedures → q < 128
+  unfolding indexOf aboveAt belowRow limits countOf every owned member
+  procedure-few q there = number-few procedureKind (λ (s : Above). s .procedures) (λ s row. refl) refl refl (λ s. refl) q there
+
+  pub type-few : (y : ℕ) → y < indexOf t .types → y < 64
+  unfolding indexOf aboveAt belowRow limits countOf every owned member
+  type-few y there = number-few typeKind (λ (s : Above). s .types) (λ s row. refl) refl refl (λ s. refl) y there
 
   -- a field is below its limit
   field-low : (i : ℕ) → i < rowCount t → 3 ≡ kindAt t i → aboveAt t i .fields < 8

@@ -18,7 +18,7 @@ use Rattle.program.proofs.Laws.{procedure-there}
 use Rattle.steps.proofs.Laws.{length-kinds}
 use Rattle.locals.specs.Locals.{parameterCount}
 use Rattle.judging.specs.Judging.{AcceptedTable}
-use Rattle.judging.proofs.Sizes.{rows-fine, nth-hit}
+use Rattle.judging.proofs.Sizes.{rows-fine, nth-hit, sized}
 use Rattle.walks.proofs.Rows.{own, code-some}
 use Rattle.judged.specs.Judged.{localKinds, Procedure}
 use Rattle.judged.proofs.Stretches.{kind-at, kinds-split}
@@ -71,4 +71,7 @@ procedure t a q there = record {
   parameters = parameters-length t (own t q);
   local-at = local-kind t (own t q);
   results = few-results t a q there;
+  low = few t a q there;
+  few-locals = sized t (rowCount t) (a .byRows) .locals q there;
+  few-code = sized t (rowCount t) (a .byRows) .instructions q there;
 }

@@ -25,7 +25,7 @@ use Rattle.walks.proofs.Rows.{count-nth, count-stretch}
 use Rattle.walks.proofs.Guest.{type-row, type-is, type-below, type-kind, field-end}
 use Rattle.judged.specs.Judged.{Declared}
 use Rattle.judged.proofs.Stretches.{kind-at, kind-there}
-use Rattle.judged.proofs.Counts.{fields-few, row-sort}
+use Rattle.judged.proofs.Counts.{type-few, fields-few, row-sort}
 
 -- a row of sort 0 or 1 declares no reference
 sort-plain : (row : Row) → row .a < 2 → isReference (rowKind row) ≡ false
@@ -109,6 +109,7 @@ module _ (t : List ℕ) (a : AcceptedTable t) (y j : ℕ) (there : y < indexOf t
 -- type y of an accepted table
 pub declared : (t : List ℕ) → AcceptedTable t → (y : ℕ) → y < indexOf t .types → Declared t (indexOf t) y
 declared t a y there = record {
+  low = type-few t (rows-fine t (rowCount t) (a .byRows)) y there;
   few = fields-few t (rows-fine t (rowCount t) (a .byRows)) y there;
   field-at = field-kind t (typeIn (indexOf t) y);
   fields = fields-length t (typeIn (indexOf t) y);

@@ -9,7 +9,7 @@ use lib.Dec.{eqb}
 use lib.ListN.{length, getD, getElem? as nth}
 use Rattle.table.specs.declared.index.Index.{Index}
 use Rattle.table.specs.declared.index.ProcedureEntry.{ProcedureEntry}
-use Rattle.table.specs.Format.{maxFields, maxResults, opMvLoc, opBorrowLoc, opBorrowFld, opPack, opExists, opCall, opRet, opBranch, opBranchCond, opOp}
+use Rattle.table.specs.Format.{maxTypes, maxFields, maxProcedures, maxLocals, maxResults, maxInstructions, opMvLoc, opBorrowLoc, opBorrowFld, opPack, opExists, opCall, opRet, opBranch, opBranchCond, opOp}
 use Rattle.table.specs.Rows.{rowCount, rowAt}
 use Rattle.program.specs.Program.{recordOf, isReference, rowKind, kindsOf, typeIn, procedureIn, fieldCount, fieldKinds, fieldRow, localCount, localKind, parametersEnd, parameterKinds, resultKinds, codeOf}
 use Rattle.reach.specs.Reach.{Mem}
@@ -40,6 +40,10 @@ pub record Procedure (t : List ℕ) (ix : Index) (p : ℕ) : Type 0 where
   pub local-at : (l : ℕ) → l < localCount (procedureIn ix p) → nth (localKinds t (procedureIn ix p)) l ≡ some (localKind t (procedureIn ix p) l)
   -- it has at most four results
   pub results : length (resultKinds t (procedureIn ix p)) ≤ maxResults
+  -- it is one of 128, with at most 16 locals and 256 instructions
+  pub low : p < maxProcedures
+  pub few-locals : localCount (procedureIn ix p) ≤ maxLocals
+  pub few-code : rowCount (codeOf t (procedureIn ix p)) ≤ maxInstructions
 
 -- instruction i of procedure p
 pub record Instruction (t : List ℕ) (ix : Index) (p i : ℕ) : Type 0 where
@@ -67,6 +71,8 @@ pub record Instruction (t : List ℕ) (ix : Index) (p i : ℕ) : Type 0 where
 
 -- type y
 pub record Declared (t : List ℕ) (ix : Index) (y : ℕ) : Type 0 where
+  -- it is one of 64, with at most 8 fields
+  pub low : y < maxTypes
   pub few : fieldCount (typeIn ix y) ≤ maxFields
   pub field-at : (j : ℕ) → j < fieldCount (typeIn ix y) → nth (fieldKinds t (typeIn ix y)) j ≡ some (rowKind (rowAt t (fieldRow (typeIn ix y) j)))
   pub fields : length (fieldKinds t (typeIn ix y)) ≡ fieldCount (typeIn ix y)

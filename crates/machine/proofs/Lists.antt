@@ -233,6 +233,30 @@ nothing-shown = (
   },
 )
 
+-- What lies between the calls of a good list stands for a base of the rules.
+module _ (t : List ℕ) (J : Judged t (indexOf t)) where
+  abbrev pub Between : MBase → Type 0
+  Between mb = (b : Base) × BaseOk t J b × Shown mb b
+
+  pub between-nothing : Between mnothing
+  between-nothing = (nothing, nothing-ok t J, nothing-shown)
+
+  -- the state in which a call begins is on the way
+  pub between-begins : (q budget : ℕ) (args : List ℕ) (rooms : List (Option MRoom)) (recs : ℕ) (es : List MEntry) (n : ℕ) → Callable t (indexOf t) q budget args → Between (mbase rooms recs es n)
+      → (R D : List ℕ) × (fs : List Frame) × (rs : List Cell) × (st : List Entry) × (m : ℕ)
+      × Represents R D (mframe n q 0 [] (map Number args ++ replicate (localCount (procedureIn (indexOf t) q) - length args) Empty)) [] rooms recs es (n + 1) fs rs st m × StateOk t (state fs rs st m)
+  unfolding BaseOk
+  between-begins q budget args rooms recs es n c w = go (w .0) (w .1) (w .2)
+    where
+      go : (b : Base) → BaseOk t J b → Shown (mbase rooms recs es n) b
+          → (R D : List ℕ) × (fs : List Frame) × (rs : List Cell) × (st : List Entry) × (m : ℕ)
+          × Represents R D (mframe n q 0 [] (map Number args ++ replicate (localCount (procedureIn (indexOf t) q) - length args) Empty)) [] rooms recs es (n + 1) fs rs st m × StateOk t (state fs rs st m)
+      go (base rs st m) v s = (s .0, s .1 ++ (0 ∷ []), _, rs, st, m + 1, begin-same t q args (s .2), begin-ok t J q budget args rs st m c (v .0))
+
+  pub between-after : (q budget : ℕ) (args : List ℕ) (mb : MBase) → Callable t (indexOf t) q budget args → Between mb → Between (mafter mb (mgo t (indexOf t) budget (mbegin t (indexOf t) q args mb)))
+  between-after q budget args mb c w =
+      (baseAfter t (indexOf t) (w .0) (go t (indexOf t) budget (begin t (indexOf t) q args (w .0))), call-run t J q budget args (w .0) c (w .1) .1, call-same t J 0 q budget args mb (w .0) c (w .1) (w .2) .1)
+
 -- the text of a good list over an accepted table, as the machine writes it
 pub text-same : (t l : List ℕ) (n k : ℕ) → Bytes t → Bytes l → judgeOf t ≡ Accepted n → listOf t (indexOf t) l ≡ Accepted k → textOf (λ (es : List Entry). es) (historyOf t l) ≡ mtext t (indexOf t) (callsOf l)
 unfolding textOf mtext historyOf

@@ -55,11 +55,11 @@ each m e (o ∷ os) (t ∷ ts) h zero = h .0
 each m e (o ∷ os) (t ∷ ts) h (suc k) = each m e os ts (h .1) k
 
 -- what holds of each number below m holds of one of them
-abbrev From : (ℕ → Type 0) → ℕ → Type 0
+abbrev pub From : (ℕ → Type 0) → ℕ → Type 0
 From P zero = Unit
 From P (suc m) = P zero × From (λ (k : ℕ). P (suc k)) m
 
-pick : (P : ℕ → Type 0) (m k : ℕ) → From P m → k < m → P k
+pub pick : (P : ℕ → Type 0) (m k : ℕ) → From P m → k < m → P k
 pick P zero k h l = absurd (omega arith)
 pick P (suc m) zero h l = h .0
 pick P (suc m) (suc k) h l = pick (λ (i : ℕ). P (suc i)) m k (h .1) (omega arith)

@@ -24,7 +24,7 @@ use Rattle.walks.proofs.Regular.{regular, step-takes, step-gives}
 use Rattle.walks.proofs.Follow.{nextBelow, kinds-follow}
 
 -- how many kinds there are after some are pushed
-length-onto : (ks rest : List ℕ) → length (onto ks rest) ≡ length ks + length rest
+pub length-onto : (ks rest : List ℕ) → length (onto ks rest) ≡ length ks + length rest
 unfolding onto
 length-onto [] rest = omega arith
 length-onto (k ∷ ks) rest = omega (arith, length-onto ks (k ∷ rest))
@@ -47,7 +47,7 @@ length-pushes step r i ls = go (eqb (step i .opcode) opMvLoc) (eqb (step i .opco
     go false false p q = refl
 
 -- the kinds of good kinds are the same
-good-same : {xs ys : List ℕ} → good xs ≡ good ys → xs ≡ ys
+pub good-same : {xs ys : List ℕ} → good xs ≡ good ys → xs ≡ ys
 good-same e = cc
 
 -- the kinds before instruction i are as many as the operands

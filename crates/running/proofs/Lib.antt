@@ -1,0 +1,9 @@
+pub mod Laws
+pub mod Opcodes
+pub mod Live
+pub mod Facts
+pub mod Arrays
+pub mod Allowed
+pub mod Done
+pub mod Follows
+pub mod Calls
