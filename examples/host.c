@@ -1,4 +1,4 @@
-/* A host in C: judges good, bad and empty tables through the static library, and checks each answer.
+/* A host in C: judges good, bad and empty tables and runs lists of calls through the static library, and checks each answer.
  *
  *     rt staticlib yithrel && gcc -Wall -Wextra -O2 -Iinclude examples/host.c target/staticlib/libyithrel.a -o target/host && target/host
  */
@@ -9,17 +9,26 @@
 
 #define MAX_TABLE (2048 * 16)
 
+#define MAX_LIST (256 * 16)
+
 static unsigned char table[MAX_TABLE + 32];
+static unsigned char list[MAX_LIST + 16];
+static unsigned char text[YITHREL_MIN_TEXT + 100];
 static int failures;
 
-static size_t load(const char *path)
+static size_t load_into(unsigned char *room, size_t size, const char *path)
 {
     FILE *file = fopen(path, "rb");
     if (!file)
         return 0;
-    size_t n = fread(table, 1, sizeof table, file);
+    size_t n = fread(room, 1, size, file);
     fclose(file);
     return n;
+}
+
+static size_t load(const char *path)
+{
+    return load_into(table, sizeof table, path);
 }
 
 static void expect(const char *what, const unsigned char *bytes, size_t n, unsigned number, unsigned value)
@@ -32,6 +41,43 @@ static void expect(const char *what, const unsigned char *bytes, size_t n, unsig
     int ok = answer == ((uint64_t)number << 32) + value && same;
     printf("%s: number %u value %u%s\n", what, (unsigned)(answer >> 32), (unsigned)(answer & 0xffffffffu), ok ? "" : "  WRONG");
     failures += !ok;
+}
+
+/* Runs the list in `list` over the table in `table` with a buffer of text_len bytes: the answer, the text, and every other byte as it was. */
+static void expect_run(const char *what, size_t n, size_t k, size_t text_len, unsigned number, unsigned value, const char *lines)
+{
+    static unsigned char table_before[sizeof table], list_before[sizeof list];
+    memcpy(table_before, table, sizeof table);
+    memcpy(list_before, list, sizeof list);
+    memset(text, 0xa5, sizeof text);
+    uint64_t answer = yithrel_run(table, n, list, k, text, text_len);
+    size_t size = number ? 0 : value;
+    int ok = answer == ((uint64_t)number << 32) + value && memcmp(text, lines, size) == 0;
+    for (size_t i = size; i < sizeof text; i++)
+        ok = ok && text[i] == 0xa5;
+    ok = ok && memcmp(table_before, table, sizeof table) == 0 && memcmp(list_before, list, sizeof list) == 0;
+    printf("%s: number %u value %u%s\n%.*s", what, (unsigned)(answer >> 32), (unsigned)(answer & 0xffffffffu), ok ? "" : "  WRONG", (int)size, text);
+    failures += !ok;
+}
+
+/* Credits published under an address by the credit module's procedure 0: twice, the second time the key is taken. */
+static void run_credits(void)
+{
+    static const char both[] = "call 0 done\ncall 1 stop 33 row 8\nstore 0 7 500\n";
+    static const char spent[] = "call 0 stop 31 row 9\ncall 1 done\nstore 0 7 500\n";
+    size_t n = load("examples/credit.bin");
+    size_t k = load_into(list, sizeof list, "examples/credit-calls.bin");
+    expect_run("two calls", n, k, YITHREL_MIN_TEXT, 0, sizeof both - 1, both);
+    expect_run("a longer buffer", n, k, sizeof text, 0, sizeof both - 1, both);
+    expect_run("a short buffer", n, k, YITHREL_MIN_TEXT - 1, 17, 0, "");
+    expect_run("no calls", n, 0, YITHREL_MIN_TEXT, 0, 0, "");
+    expect_run("list less one byte", n, k - 1, YITHREL_MIN_TEXT, 15, 0, "");
+    expect_run("no argument", n, 16, YITHREL_MIN_TEXT, 16, 0, "");
+    expect_run("table less one byte", n - 1, k, YITHREL_MIN_TEXT, 1, 0, "");
+    list[4] = 4;
+    expect_run("budget 4 in the first call", n, k, YITHREL_MIN_TEXT, 0, sizeof spent - 1, spent);
+    list[4] = 0;
+    expect_run("budget 0", n, k, YITHREL_MIN_TEXT, 16, 0, "");
 }
 
 int main(void)
@@ -52,5 +98,6 @@ int main(void)
         table[16 * i] = 1;
     expect("17 modules", table, 17 * 16, 3, 16);
     expect("2,049 rows", table, 2049 * 16, 1, 0);
+    run_credits();
     return failures != 0;
 }

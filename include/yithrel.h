@@ -1,4 +1,4 @@
-/* Yithrel: judges tables of 16-byte rows (a small Move). */
+/* Yithrel: judges tables of 16-byte rows (a small Move) and runs lists of calls over them. */
 #ifndef YITHREL_H
 #define YITHREL_H
 
@@ -36,6 +36,43 @@ extern "C" {
  * A table of no bytes may be given as any pointer, null too, with length 0: nothing is read through it.
  */
 uint64_t yithrel_judge(const uint8_t *table, size_t table_len);
+
+/* The shortest buffer for the text of a run: no text is longer. */
+#define YITHREL_MIN_TEXT 65536
+
+/*
+ * Runs the list of calls over the table, and writes what came of them into the text buffer. Takes every string of bytes as table and list, and every
+ * buffer; always ends. Reads nothing but table and list, and changes nothing but the buffer.
+ *
+ * Before any call runs, the table is judged, then the list, then the buffer. The answer is number * 2^32 + value. Number 0: the calls were run, value is
+ * the length of the text, which stands at the buffer's start; the bytes after it are as they were. Else number is the refusal, value its row, and the
+ * buffer is as it was:
+ *
+ *    1 to 14  the table is refused, as by yithrel_judge
+ *   15  the list is over 4,096 bytes long or no multiple of 16 (row 0); a row of unknown kind, with an unused byte that is not zero, or an argument
+ *       first (its row)
+ *   16  a call of no public procedure, of one with a parameter or result that is no number, with the wrong number of arguments, or with a budget
+ *       outside 1 to 65,535 (the call's row)
+ *   17  the buffer is shorter than YITHREL_MIN_TEXT (row 0)
+ *
+ * The list is rows of 16 bytes: kind 1 is a call (B the procedure, C the budget of instructions), kind 2 an argument (D) of the call above. The store
+ * starts empty and lasts over the list. The text has a line for each call, then one for each entry of the store, the newest first:
+ *
+ *   call I done RESULT ..       call I ended, with its results
+ *   call I stop N row R         call I stopped at the instruction in row R; the store is that of its beginning
+ *   store TYPE ADDRESS FIELD .. a nested record stands as (TYPE FIELD ..)
+ *
+ *   31 budget spent              34 no such key                  37 a 129th live record
+ *   32 sum or difference         35 reference to what is gone    38 a 65th store entry
+ *   33 key taken                 36 a 17th frame
+ *
+ * Nothing may write table or list while the call runs, and the buffers lent to one call may not overlap.
+ *
+ * A call needs STACK of stack.
+ *
+ * A table or list of no bytes may be given as any pointer, null too, with length 0.
+ */
+uint64_t yithrel_run(const uint8_t *table, size_t table_len, const uint8_t *list, size_t list_len, uint8_t *text, size_t text_len);
 
 #ifdef __cplusplus
 }

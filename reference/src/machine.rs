@@ -71,6 +71,8 @@ struct Room {
 pub struct Entry {
     pub of: u8,
     pub address: u64,
+    /// How many entries had been made before it.
+    pub made: u64,
     room: u8,
 }
 
@@ -103,6 +105,7 @@ pub struct Machine<'p> {
     operands: Vec<Value>,
     frames_made: Identity,
     records_made: Identity,
+    entries_made: u64,
 }
 
 /// Is shown the machine whenever an instruction has come up and the budget allows it.
@@ -132,6 +135,7 @@ impl<'p> Machine<'p> {
             operands: Vec::with_capacity(limit::FRAMES * limit::OPERANDS),
             frames_made: 0,
             records_made: 0,
+            entries_made: 0,
         }
     }
 
@@ -464,7 +468,9 @@ impl<'p> Machine<'p> {
             return Err(Stop::Entries);
         }
         let Value::Record(room) = self.pop() else { unreachable!("{JUDGED}") };
-        self.memory.store.insert(place, Entry { of, address, room });
+        let made = self.entries_made;
+        self.entries_made += 1;
+        self.memory.store.insert(place, Entry { of, address, made, room });
         Ok(())
     }
 

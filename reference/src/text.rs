@@ -1,6 +1,6 @@
 //! The text of a run.
 
-use crate::machine::{Machine, Outcome};
+use crate::machine::{Entry, Machine, Outcome};
 use crate::program::Program;
 use std::io::Write;
 
@@ -20,9 +20,11 @@ pub fn write_call(text: &mut Vec<u8>, number: usize, outcome: &Outcome) {
     text.push(b'\n');
 }
 
-/// Writes one `store` line per entry, types rising and in a type the addresses rising.
+/// Writes one `store` line per entry, the newest first.
 pub fn write_store(text: &mut Vec<u8>, machine: &Machine) {
-    for entry in machine.store() {
+    let mut entries: Vec<&Entry> = machine.store().iter().collect();
+    entries.sort_by_key(|entry| std::cmp::Reverse(entry.made));
+    for entry in entries {
         put(text, format_args!("store {} {}", entry.of, entry.address));
         write_fields(text, machine, machine.entry_fields(entry));
         text.push(b'\n');

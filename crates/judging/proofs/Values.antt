@@ -29,7 +29,7 @@ use Rattle.judging.specs.Judging.{judgeOf, inOrder, passes}
 use Rattle.judging.proofs.Sizes.{part-between}
 
 -- a pass over rows answers a row at most as high as it has come
-first-value : (bad : ℕ → ℕ → Verdict) (start : ℕ) → ((k j : ℕ) → valueOf (bad k j) ≤ start + j) → (f : ℕ → ℕ) (i left : ℕ) → valueOf (firstFault Accepted bad f i left) ≤ start + i + left
+pub first-value : (bad : ℕ → ℕ → Verdict) (start : ℕ) → ((k j : ℕ) → valueOf (bad k j) ≤ start + j) → (f : ℕ → ℕ) (i left : ℕ) → valueOf (firstFault Accepted bad f i left) ≤ start + i + left
 unfolding firstFault
 first-value bad start low f i zero = omega arith
 first-value bad start low f i (suc left) = go (f i) refl (first-value bad start low f (i + 1) left)

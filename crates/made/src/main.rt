@@ -1,6 +1,5 @@
 // Judges the made tables of tables.bin, one after the other, and prints a line for each. A table is its length, four bytes, lowest first,
 // and its bytes.
-ghost use Prim.Native.Nat.{_<_};
 
 // The longest table that a file may hold, and the most tables.
 const ROOM: usize = 65536;
@@ -30,7 +29,7 @@ fn judge_all(file: i32, room: &mut [u8]) {
 
 // Judges the next table; false where there is none, or where it is too long or cut off.
 fn judge_next(file: i32, room: &mut [u8]) -> bool {
-    let n = next_length(file);
+    let n = report::next_number(file, ROOM + 1);
     if room.len() < n {
         return false;
     }
@@ -44,19 +43,4 @@ fn judge_part(file: i32, table: &mut [u8]) -> bool {
     }
     report::print_verdict(judging::judge_table(table));
     true
-}
-
-// The length of the next table, or more than there is room for where the file ends.
-fn next_length(file: i32) -> usize {
-    let mut head = [0u8; 4];
-    if io::read_full(file, &mut head) != 4 {
-        return ROOM + 1;
-    }
-    wide(head[0]) + 256 * wide(head[1]) + 65536 * wide(head[2]) + 16777216 * wide(head[3])
-}
-
-fn wide(x: u8) -> usize
-    ensures { λ r. ⌜ r < 256 ⌝ }
-{
-    x as usize
 }

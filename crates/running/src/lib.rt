@@ -209,7 +209,10 @@ fn next_place(i: u16) -> u16
 fn after_pack(frame: Frame, takes: usize, serial: u32, room: u8, kind: u8) -> Frame
     ensures { λ r. ⌜ r ≡ afterPack frame takes serial room kind ⌝ }
 {
-    frame.drop_top(takes).push(Operand::Record(serial, room, kind)).go_to(next_place(frame.at))
+    frame
+        .drop_top(takes)
+        .push(Operand::Record(serial, room, kind))
+        .go_to(next_place(frame.at))
 }
 
 // The frame after the one that it called returned.
@@ -298,7 +301,17 @@ pub fn run_call(table: &[u8], index: Index, first: Frame, budget: usize, start: 
             let live = memory::holds(&used, m, room, answers::serial_of(x));
             let found = answers::found_at(r, x, room, live);
             let key = key_of(store, ask, y);
-            let reply = answers::answer(turned, ask, found, room, live, key.has, key.full, key.entry, row.b);
+            let reply = answers::answer(
+                turned,
+                ask,
+                found,
+                room,
+                live,
+                key.has,
+                key.full,
+                key.entry,
+                row.b,
+            );
             let next = reply.next;
             let then = reply.frame;
             match next {
@@ -372,5 +385,11 @@ pub fn run_call(table: &[u8], index: Index, first: Frame, budget: usize, start: 
         }
     }
     let last = index.procedure_entries[(frame.procedure % 128) as usize];
-    stopped(start, records, frames, BUDGET_SPENT, (last.code as usize) + (frame.at as usize))
+    stopped(
+        start,
+        records,
+        frames,
+        BUDGET_SPENT,
+        (last.code as usize) + (frame.at as usize),
+    )
 }

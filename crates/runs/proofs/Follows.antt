@@ -86,7 +86,7 @@ module _ (args : List ℕ) (n q count : ℕ) (low : q < 256) (fits : length args
       let tall : length args ≤ pushedNumbers blankFrame args .height = omega (arith, p .height) in
       let same : q % 256 ≡ q = omega (arith, low) in
       let ops : topmost (length args) (operandsOf (pushedNumbers blankFrame args)) ≡ map Number args =
-          rw (p .operands) (ap (λ (k : ℕ). topmost k (backTo (map Number args) [])) (sym (length-map args Number)) ∙ topmost-all (map Number args)) in
+      rw (p .operands) (ap (λ (k : ℕ). topmost k (backTo (map Number args) [])) (sym (length-map args Number)) ∙ topmost-all (map Number args)) in
       rw (same, enter-stands (pushedNumbers blankFrame args) (p .sized) (length args) tall n q count fits few, ops) refl
 
 -- what there is when a call begins: only the count of frames is another, and no stop restores it

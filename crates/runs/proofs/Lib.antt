@@ -1,3 +1,4 @@
 pub mod Laws
 pub mod Follows
 pub mod Runs
+pub mod Values

@@ -26,7 +26,7 @@ use Rattle.runs.proofs.Follows.{text-is}
 abbrev pub asIs : List Entry → List Entry
 asIs es = es
 
-each-once : (es : List Entry) → Rearranged es (asIs es)
+pub each-once : (es : List Entry) → Rearranged es (asIs es)
 each-once [] = none-at-all
 each-once (e ∷ es) = same-first (each-once es)
 

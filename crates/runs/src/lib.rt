@@ -62,12 +62,25 @@ fn run_at(table: &[u8], list: &[u8], index: Index, i: usize, base: Base) -> Ende
 {
     let row = table::row_at(list, i);
     let callee = calls::procedure_in(index, row.b as usize);
-    let first = first_frame(list, i, base.frames, (row.b % 256) as u8, program::local_count(callee));
+    let first = first_frame(
+        list,
+        i,
+        base.frames,
+        (row.b % 256) as u8,
+        program::local_count(callee),
+    );
     running::run_call(table, index, first, row.c as usize, begun(base))
 }
 
 // Puts the line of a call.
-fn put_end(text: &mut [u8], at: usize, call: usize, end: End, row: usize, results: [u64; 4]) -> usize
+fn put_end(
+    text: &mut [u8],
+    at: usize,
+    call: usize,
+    end: End,
+    row: usize,
+    results: [u64; 4],
+) -> usize
     ensures { λ r. ⌜ (now (text .exit) ≡ (placed (now (text .entry)) at (endLine call end row results)) .buffer) × (r ≡ (placed (now (text .entry)) at (endLine call end row results)) .end) ⌝ }
 {
     match end {

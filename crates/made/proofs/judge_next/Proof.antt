@@ -5,8 +5,11 @@ use borrow.Author.Needs.{needs}
 use Rattle.made.proofs.judge_next.Statement.{statement}
 use Rattle.made.proofs.judge_next.Tie as tie
 
-next-length-requires : tie.Need-next-length-requires
-next-length-requires c κs = search needs
+add-next-number : tie.Need-add-next-number
+add-next-number c = search needs
+
+next-number-requires : tie.Need-next-number-requires
+next-number-requires c κs = search needs
 
 returns : tie.Need-returns
 returns c = search needs
@@ -30,7 +33,8 @@ pub judge-next-spec : {M : Type 1} → statement M
 judge-next-spec =
     tie.close
     (tie.spec
-    next-length-requires
+    add-next-number
+    next-number-requires
     returns
     slice-relend-prefix-judge-part
     slice-aggregate-judge-part

@@ -56,7 +56,7 @@ loop-less : tie.Need-loop-less Inv-loop μ-loop
 loop-less c = search needs
 
 loop-again : tie.Need-loop-again Inv-loop μ-loop
-loop-again c = 
+loop-again c =
     let low : c .before .before .before .loop .k < length (given (c .before .before .before .before .before .before .before .args .list .now) (c .before .before .before .before .before .before .before .args .i)) = omega (arith, c .before .before .loop-test .taken, c .before .before .before .before .argument-count .ensures) in
     (omega arith, c .before .before .before .loop .inv .1 ∙ numbers-more _ _ _ low (ap (λ (r : Row). r .d) (c .before .row-at .ensures) ∙ sym (argument-at (c .before .before .before .before .before .before .before .args .list .now) (c .before .before .before .before .before .before .before .args .i + 1) (rowCount (c .before .before .before .before .before .before .before .args .list .now) - (c .before .before .before .before .before .before .before .args .i + 1)) (c .before .before .before .loop .k) low .0)) (c .push .ensures))
 
@@ -64,7 +64,7 @@ enter-requires-2 : tie.Need-enter-requires-2 Inv-loop μ-loop
 enter-requires-2 c κs = search needs
 
 returns-2 : tie.Need-returns-2 Inv-loop μ-loop
-returns-2 c = 
+returns-2 c =
     let same = c .before .before .loop .inv .1 ∙ numbers-done _ _ (c .before .before .loop .k) (omega (arith, c .before .loop-test .left, c .before .before .before .argument-count .ensures)) in
     rw (same, ← c .before .before .before .argument-count .ensures) (c .enter2 .ensures)
 

@@ -41,10 +41,14 @@ loop-less : tie.Need-loop-less Inv-loop μ-loop
 loop-less c = search needs
 
 loop-again : tie.Need-loop-again Inv-loop μ-loop
-loop-again c = 
-    let inv = c .before .before .before .before .before .before .before .before .before .before .loop .inv in
-    (omega (arith, inv .0), omega (arith, c .before .before .before .before .before .before .before .before .before .loop-test .taken), search (needs, inv .2), search needs,
-    inv .4 ∙ text-call _ _ _ _ _ _ _ (c .before .before .before .before .before .before .before .before .before .before .loop .base) (c .before .before .before .before .before .before .before .before .before .loop-test .taken) (is-kind _ _ callRow (c .before .before .before .before .before .before .before .before .kind-at .ensures) (c .before .before .before .before .before .before .before .if1 .taken)) (c .before .before .before .before .before .before .run-at .ensures) (c .before .before .before .put-end .ensures))
+loop-again c =
+    let inv = c .before .before .before .before .before .before .before .before .before .before .loop .inv in (
+      omega (arith, inv .0),
+      omega (arith, c .before .before .before .before .before .before .before .before .before .loop-test .taken),
+      search (needs, inv .2),
+      search needs,
+      inv .4 ∙ text-call _ _ _ _ _ _ _ (c .before .before .before .before .before .before .before .before .before .before .loop .base) (c .before .before .before .before .before .before .before .before .before .loop-test .taken) (is-kind _ _ callRow (c .before .before .before .before .before .before .before .before .kind-at .ensures) (c .before .before .before .before .before .before .before .if1 .taken)) (c .before .before .before .before .before .before .run-at .ensures) (c .before .before .before .put-end .ensures),
+    )
 
 add-i-2 : tie.Need-add-i-2 Inv-loop μ-loop
 add-i-2 c = search needs
@@ -53,10 +57,14 @@ loop-less-2 : tie.Need-loop-less-2 Inv-loop μ-loop
 loop-less-2 c = search needs
 
 loop-again-2 : tie.Need-loop-again-2 Inv-loop μ-loop
-loop-again-2 c = 
-    let inv = c .before .before .before .loop .inv in
-    (omega (arith, inv .0), omega (arith, c .before .before .loop-test .taken), inv .2, inv .3,
-    inv .4 ∙ text-other _ _ _ _ _ _ _ (c .before .before .before .loop .base) (c .before .before .loop-test .taken) (not-kind _ _ callRow (c .before .kind-at .ensures) (c .if1 .left)))
+loop-again-2 c =
+    let inv = c .before .before .before .loop .inv in (
+      omega (arith, inv .0),
+      omega (arith, c .before .before .loop-test .taken),
+      inv .2,
+      inv .3,
+      inv .4 ∙ text-other _ _ _ _ _ _ _ (c .before .before .before .loop .base) (c .before .before .loop-test .taken) (not-kind _ _ callRow (c .before .kind-at .ensures) (c .if1 .left)),
+    )
 
 slice-aggregate-put-entries : tie.Need-slice-aggregate-put-entries Inv-loop μ-loop
 slice-aggregate-put-entries c = search (needs, c .before .before .before .before .before .before .before .loop .inv .3)
@@ -68,7 +76,7 @@ same-length : tie.Need-same-length Inv-loop μ-loop
 same-length c = search needs
 
 returns : tie.Need-returns Inv-loop μ-loop
-returns c = 
+returns c =
     let inv = c .before .before .before .before .before .before .before .before .before .before .loop .inv in
     text-done _ _ _ _ _ _ _ _ (c .before .before .before .before .before .before .before .before .before .before .loop .base) (c .before .before .before .before .before .before .before .before .before .loop-test .left) (inv .4) (c .before .before .put-entries .ensures)
 
