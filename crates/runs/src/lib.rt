@@ -8,7 +8,7 @@ ghost use Rattle.rules.specs.Calls.{call, arguments};
 ghost use Rattle.rules.specs.Run.{runOf};
 ghost use Rattle.text.specs.Placing.{placed};
 ghost use Rattle.running.specs.Stands.{endLine};
-ghost use Rattle.runs.specs.Lists.{firstOf, begun, endOf, textIn};
+ghost use Rattle.runs.specs.Lists.{firstOf, endOf, textIn};
 use cells::Frame;
 use cells::Operand;
 use running::Base;
@@ -40,36 +40,22 @@ fn first_frame(list: &[u8], i: usize, serial: u32, procedure: u8, count: usize) 
     frame.enter(serial, procedure, n, count)
 }
 
-// What there is when a call begins: one more frame.
-fn begun(base: Base) -> Base
-    ensures { λ r. ⌜ r ≡ begun base ⌝ }
-{
-    let rooms = base.rooms;
-    let used = base.used;
-    let store = base.store;
-    Base {
-        rooms,
-        used,
-        records: base.records,
-        store,
-        frames: running::next_serial(base.frames),
-    }
-}
-
 // Runs the call at row i of a list.
-fn run_at(table: &[u8], list: &[u8], index: Index, i: usize, base: Base) -> Ended
+fn run_at(table: &[u8], list: &[u8], index: Index, i: usize, mut base: Base) -> Ended
     ensures { λ r. ⌜ r ≡ endOf (now (table .entry)) index base (call (rowAt (now (list .entry)) i .b) (rowAt (now (list .entry)) i .c) (arguments (now (list .entry)) (i + 1) (rowCount (now (list .entry)) - (i + 1)))) ⌝ }
 {
     let row = table::row_at(list, i);
     let callee = calls::procedure_in(index, row.b as usize);
+    let serial = base.frames;
     let first = first_frame(
         list,
         i,
-        base.frames,
+        serial,
         (row.b % 256) as u8,
         program::local_count(callee),
     );
-    running::run_call(table, index, first, row.c as usize, begun(base))
+    base.frames = running::next_serial(serial);
+    running::run_call(table, index, first, row.c as usize, base)
 }
 
 // Puts the line of a call.

@@ -1,3 +1,6 @@
+use Prim.Native.Nat.{ℕ}
+use mathlib.Core.Path.{ap}
+use Rattle.running.specs.declared.Base.{Base}
 use Rattle.runs.proofs.Laws.{end-is}
 use native.Mathlib.Omega.{arith}
 use borrow.Author.Needs.{needs}
@@ -22,17 +25,20 @@ local-count-requires c κs = search needs
 first-frame-requires : tie.Need-first-frame-requires
 first-frame-requires c κs = search needs
 
+next-serial-requires : tie.Need-next-serial-requires
+next-serial-requires c κs = search needs
+
 cast-run-call : tie.Need-cast-run-call
 cast-run-call c = search needs
-
-begun-requires : tie.Need-begun-requires
-begun-requires c κs = search needs
 
 run-call-requires : tie.Need-run-call-requires
 run-call-requires c κs = search needs
 
 returns : tie.Need-returns
-returns c = end-is _ _ _ (c .before .before .before .before .before .before .before .before .before .before .before .args .base) (c .before .before .before .before .before .before .before .before .before .before .before .args .i) (c .before .before .before .before .before .before .before .before .row-at .ensures) (c .before .before .before .before .before .before .procedure-in .ensures) (c .before .before .before .before .local-count .ensures) (c .before .before .before .first-frame .ensures) (c .before .begun .ensures) (c .run-call .ensures)
+returns c =
+    let b = c .before .before .before .before .before .before .before .before .before .before .before .args .base in
+    let begins = ap {B = Base} (λ (n : ℕ). record { rooms = b .rooms; used = b .used; records = b .records; store = b .store; frames = n }) (c .before .before .next-serial .ensures) in
+    end-is _ _ _ b (c .before .before .before .before .before .before .before .before .before .before .before .args .i) (c .before .before .before .before .before .before .before .before .row-at .ensures) (c .before .before .before .before .before .before .procedure-in .ensures) (c .before .before .before .before .local-count .ensures) (c .before .before .before .first-frame .ensures) begins (c .run-call .ensures)
 
 pub run-at-spec : {M : Type 1} → statement M
 run-at-spec =
@@ -44,7 +50,7 @@ run-at-spec =
     cast-first-frame
     local-count-requires
     first-frame-requires
+    next-serial-requires
     cast-run-call
-    begun-requires
     run-call-requires
     returns)
