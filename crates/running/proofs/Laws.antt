@@ -3,41 +3,42 @@ use Prim.Native.Nat.{ℕ, suc, _+_, _-_, _%_, _<_, _≤_}
 use mathlib.Core.Path.{_≡_, refl, sym, ap, _∙_}
 use mathlib.Core.Bool.{Bool, true, false}
 use mathlib.Core.List.{List}
-use lib.ListN.{getD, set}
+use lib.ListN.{length, getD, set}
 use borrow.Author.Tests.{lt-leb, le-leb, eq-eqb, ne-eqb}
 use Rattle.table.specs.declared.Row.{Row}
 use Rattle.table.specs.declared.index.Index.{Index}
-use Rattle.program.specs.Program.{localCount, localKind}
+use Rattle.program.specs.Program.{localCount}
 use Rattle.rules.specs.Limits.{budgetSpent, tooManyFrames, tooManyRecords}
 use Rattle.cells.specs.declared.Reference.{Reference}
 use Rattle.cells.specs.declared.Operand.{Operand}
+use Rattle.cells.specs.declared.Operand.the-variants.{Empty, Number}
+use Rattle.cells.specs.declared.Cell.{Cell}
 use Rattle.cells.specs.declared.Frame.{Frame}
-use Rattle.cells.specs.declared.Operand.the-variants.{Number}
 use Rattle.cells.specs.declared.Room.{Room}
 use Rattle.cells.specs.declared.Entry.{Entry}
-use Rattle.cells.specs.Parts.{dropped, entered, fieldSet, packed, unpacked}
+use Rattle.cells.specs.Parts.{empty, pushed, dropped, entered, fieldSet, packed, unpacked}
 use Rattle.memory.specs.declared.Store.{Store}
 use Rattle.memory.specs.Entries.{added, removed}
 use Rattle.memory.specs.Rooms.{firstFree, isHeld}
+use Rattle.turns.specs.declared.Ask.{Ask}
+use Rattle.turns.specs.declared.Ask.the-variants.{Go as GoAsk, Stop, Read, Write, Borrow, Pack, Unpack, Publish, Withdraw, Global, Exists, Call, Ret, Broken}
 use Rattle.turns.specs.declared.Turn.{Turn}
-use Rattle.turns.specs.Turns.{turned}
+use Rattle.turns.specs.Turns.{asking}
 use Rattle.answers.specs.declared.Found.{Found}
 use Rattle.answers.specs.declared.Next.{Next}
 use Rattle.answers.specs.declared.Next.the-variants.{Go as GoOn, Stop as StopWith, Local as PutLocal, Field as PutField, Pack as PackHere, Unpack as UnpackRoom, Add, Remove, Call as CallHere, Ret as RetHere, Broken as BrokenHere}
-use Rattle.answers.specs.declared.Reply.{Reply}
 use Rattle.answers.specs.Answers.{depthOf, namedBy, roomNumber, serialOf, foundAt, referenceOf, answer, resultsOf}
 use Rattle.running.specs.declared.Base.{Base}
 use Rattle.running.specs.declared.End.the-variants.{Done}
 use Rattle.running.specs.declared.Ended.{Ended}
 use Rattle.running.specs.declared.Key.{Key}
-use Rattle.running.specs.Running.{Parts, parts, noFrame, noRoom, goesOn, keyOf, frameAmong, putOwn, putBelow, nextSerial, afterPack, afterReturn, stopped, broken, procedureOf, rowOf, rowNumber, takesIn, turnIn, replyIn, Did, on, over, done, asked, turnTaken, step, onward, run}
-
-module _ (t : List ℕ) (ix : Index) where
-  -- the turn of a frame
-  pub turn-is : (f : Frame) (row : Row) (depth : ℕ) {takes kind : ℕ} {turn : Turn} → turn ≡ turned f row takes kind (depth % 256) → takes ≡ takesIn t ix f row → kind ≡ localKind t (procedureOf ix (f .procedure)) (row .b) % 65536
-      → turn ≡ turnIn t ix f row depth
-  unfolding turnIn
-  turn-is f row depth e d k = rw (← d, ← k) e
+use Rattle.running.specs.declared.quick.Quick.{Quick}
+use Rattle.running.specs.declared.quick.Quick.the-variants.{Go, Push, Store as StoreLocal, Take, Ask as Asking}
+use Rattle.running.specs.declared.outcome.Outcome.{Outcome}
+use Rattle.running.specs.Running.{Parts, parts, noFrame, noRoom, keyOf, frameAmong, putOwn, putBelow, nextSerial, afterPack, afterReturn, stopped, broken, procedureOf, rowOf, rowNumber, takesIn, turnIn, replyIn, Did, on, over, done, asked, turnTaken, step, onward, run}
+use Rattle.running.specs.Quick.{put, grown, kept, moved, turnOf}
+use Rattle.running.specs.Outcome.{localIn, namedAmong, outcomeOf, replyOf}
+use Rattle.running.proofs.Turned.{put-is, kept-is, named-is, parts-answer}
 
 -- of a call with this beginning
 module _ (t : List ℕ) (ix : Index) (start : Base) (f : Frame) (below : List Frame) (depth : ℕ) (rooms : List Room) (used : List Bool) (recs : ℕ) (s : Store) (n : ℕ) where
@@ -50,18 +51,60 @@ module _ (t : List ℕ) (ix : Index) (start : Base) (f : Frame) (below : List Fr
   unfolding run step
   by-turn e r d = rw (e, d, r) refl
 
-  pub turn-goes : (row : Row) (turn : Turn) → goesOn (turn .ask) ≡ true → turnTaken t ix start row turn here ≡ on (parts (turn .frame) below depth rooms used recs s n)
-  unfolding turnTaken
-  turn-goes row turn e = rw e refl
+  -- what is done for a turn by its parts, where the frame is changed in place
+  module _ (row : Row) where
+    abbrev taken : Quick → Did
+    taken q = turnTaken t ix start row (turnOf f (row .b) q) here
 
-  -- a turn that asks for something, by what is found for it
-  pub turn-asks : (row : Row) (turn : Turn) {r : Reference} {d : ℕ} {g : Frame} {x : Operand} {m serial : ℕ} {live : Bool} {found : Found} {key : Key} {reply : Reply} → goesOn (turn .ask) ≡ false
-      → r ≡ referenceOf (turn .ask) → d ≡ depthOf r → g ≡ frameAmong (turn .frame) depth (getD below (d % 16) noFrame) d → x ≡ namedBy r g → m ≡ roomNumber x → serial ≡ serialOf x
-      → live ≡ isHeld used m (getD rooms (m % 128) noRoom) serial → found ≡ foundAt r x (getD rooms (m % 128) noRoom) live → key ≡ keyOf s (turn .ask) (row .b % 256)
-      → reply ≡ answer (turn .frame) (turn .ask) found (getD rooms (m % 128) noRoom) live (key .has) (key .full) (key .entry) (row .b)
-      → turnTaken t ix start row turn here ≡ done t ix start row (reply .frame) (getD rooms (m % 128) noRoom) key here (reply .next)
-  unfolding turnTaken asked replyIn
-  turn-asks row turn e r d g x m a l f k p = rw (e, p, f, l, a, m, x, g, d, r, k) refl
+    pub goes : {q : Quick} {h i : ℕ} → q ≡ Go h i → taken q ≡ on (parts (moved f h i) below depth rooms used recs s n)
+    unfolding turnTaken
+    goes e = rw e refl
+
+    pub pushes : {q : Quick} {h i : ℕ} {x : Operand} {c : Cell} {k : ℕ} → q ≡ Push h i x → length (f .operands) ≡ 16 → c ≡ put h x (getD (f .operands) (h % 16) empty) → k ≡ grown h
+        → taken q ≡ on (parts (record { serial = f .serial; procedure = f .procedure; at = i; height = k; count = f .count; operands = set (f .operands) (h % 16) c; locals = f .locals }) below depth rooms used recs s n)
+    unfolding turnTaken grown
+    pushes {h = h} {x = x} e o p g = rw (e, g, put-is (f .operands) o h x p) refl
+
+    pub stores : {q : Quick} {h i : ℕ} {x : Operand} {c : Cell} → q ≡ StoreLocal h i x → length (f .locals) ≡ 16 → c ≡ kept (f .count) (row .b) x (getD (f .locals) (row .b % 16) empty)
+        → taken q ≡ on (parts (record { serial = f .serial; procedure = f .procedure; at = i; height = h; count = f .count; operands = f .operands; locals = set (f .locals) (row .b % 16) c }) below depth rooms used recs s n)
+    unfolding turnTaken
+    stores {x = x} e o p = rw (e, kept-is (f .locals) o (f .count) (row .b) x p) refl
+
+    pub moves : {q : Quick} {h i : ℕ} {x : Operand} {c d : Cell} {k : ℕ} → q ≡ Take h i x → length (f .operands) ≡ 16 → length (f .locals) ≡ 16 → c ≡ put h x (getD (f .operands) (h % 16) empty)
+        → d ≡ kept (f .count) (row .b) Empty (getD (f .locals) (row .b % 16) empty) → k ≡ grown h
+        → taken q ≡ on (parts (record { serial = f .serial; procedure = f .procedure; at = i; height = k; count = f .count; operands = set (f .operands) (h % 16) c; locals = set (f .locals) (row .b % 16) d }) below depth rooms used recs s n)
+    unfolding turnTaken grown
+    moves {h = h} {x = x} e o w p d g = rw (e, g, put-is (f .operands) o h x p, kept-is (f .locals) w (f .count) (row .b) Empty d) refl
+
+    -- whatever a turn asks for, it is answered
+    answered : (g : Frame) (a : Ask) → turnTaken t ix start row (asking g a) here ≡ asked t ix start row (asking g a) here
+    unfolding turnTaken asked done replyIn
+    answered g GoAsk = refl
+    answered g (Stop k) = refl
+    answered g (Read r) = refl
+    answered g (Write r x) = refl
+    answered g (Borrow r) = refl
+    answered g Pack = refl
+    answered g (Unpack c m) = refl
+    answered g (Publish c m a) = refl
+    answered g (Withdraw a) = refl
+    answered g (Global a) = refl
+    answered g (Exists a) = refl
+    answered g Call = refl
+    answered g Ret = refl
+    answered g Broken = refl
+
+    pub asks : {q : Quick} {h i : ℕ} {a : Ask} {r : Reference} {d l : ℕ} {x : Operand} {m serial : ℕ} {live : Bool} {found : Found} {key : Key} {o o′ : Outcome} → q ≡ Asking h i a
+        → length (f .locals) ≡ 16 → r ≡ referenceOf a → d ≡ depthOf r → l ≡ localIn r
+        → x ≡ namedAmong r depth (f .serial) (f .count) (getD (f .locals) (l % 16) empty) (getD below (d % 16) noFrame)
+        → m ≡ roomNumber x → serial ≡ serialOf x → live ≡ isHeld used m (getD rooms (m % 128) noRoom) serial → found ≡ foundAt r x (getD rooms (m % 128) noRoom) live → key ≡ keyOf s a (row .b % 256)
+        → o ≡ outcomeOf a found (getD rooms (m % 128) noRoom) live (key .has) (key .full) (key .entry) (row .b) → o ≡ o′
+        → taken q ≡ done t ix start row (replyOf (moved f h i) o′ .frame) (getD rooms (m % 128) noRoom) key here (replyOf (moved f h i) o′ .next)
+    unfolding asked replyIn
+    asks {h = h} {i = i} {a = a} {r = r} {d = d} {x = x} {m = m} {live = live} {found = found} {key = key} {o′ = o′} e v j z u y k c b p g v′ w′ =
+        let named : x ≡ namedBy r (frameAmong (moved f h i) depth (getD below (d % 16) noFrame) d) = rw u at y ∙ named-is f (getD below (d % 16) noFrame) v depth h i r ∙ ap (λ (k : ℕ). namedBy r (frameAmong (moved f h i) depth (getD below (d % 16) noFrame) k)) (sym z) in
+        let reply : replyOf (moved f h i) o′ ≡ answer (moved f h i) a found (getD rooms (m % 128) noRoom) live (key .has) (key .full) (key .entry) (row .b) = ap (replyOf (moved f h i)) (sym w′ ∙ v′) ∙ parts-answer (moved f h i) (row .b) a found (getD rooms (m % 128) noRoom) live (key .has) (key .full) (key .entry) in
+        rw e (answered (moved f h i) a ∙ rw (reply, p, b, c, k, named, z, j, g) refl)
 
   -- what is done, by what is to be done
   module _ (row : Row) (g : Frame) (m : Room) (key : Key) (nx : Next) where
@@ -71,6 +114,11 @@ module _ (t : List ℕ) (ix : Index) (start : Base) (f : Frame) (below : List Fr
     pub does-go : nx ≡ GoOn → does ≡ on (parts g below depth rooms used recs s n)
     unfolding done
     does-go e = rw e refl
+
+    pub does-push : (h i : ℕ) (x : Operand) {c : Cell} {k : ℕ} → g ≡ pushed (moved f h i) x → nx ≡ GoOn → length (f .operands) ≡ 16 → c ≡ put h x (getD (f .operands) (h % 16) empty) → k ≡ grown h
+        → does ≡ on (parts (record { serial = f .serial; procedure = f .procedure; at = i; height = k; count = f .count; operands = set (f .operands) (h % 16) c; locals = f .locals }) below depth rooms used recs s n)
+    unfolding done grown
+    does-push h i x w e o p k = rw (e, w, k, put-is (f .operands) o h x p) refl
 
     pub does-stop : {k : ℕ} {a : Ended} → nx ≡ StopWith k → a ≡ stopped start recs n k (procedureOf ix (f .procedure) .code + f .at) → does ≡ over a
     unfolding done rowNumber
@@ -102,9 +150,11 @@ module _ (t : List ℕ) (ix : Index) (start : Base) (f : Frame) (below : List Fr
     unfolding done
     does-add e w = rw (e, w) refl
 
-    pub does-remove : {w : Store} → nx ≡ Remove → w ≡ removed s (key .at) → does ≡ on (parts g below depth rooms used recs w n)
-    unfolding done
-    does-remove e w = rw (e, w) refl
+    pub does-remove : (h i : ℕ) (x : Operand) {c : Cell} {k : ℕ} {w : Store} → g ≡ pushed (moved f h i) x → nx ≡ Remove → length (f .operands) ≡ 16 → c ≡ put h x (getD (f .operands) (h % 16) empty) → k ≡ grown h
+        → w ≡ removed s (key .at)
+        → does ≡ on (parts (record { serial = f .serial; procedure = f .procedure; at = i; height = k; count = f .count; operands = set (f .operands) (h % 16) c; locals = f .locals }) below depth rooms used recs w n)
+    unfolding done grown
+    does-remove h i x v e o p k w = rw (e, v, k, put-is (f .operands) o h x p, w) refl
 
     pub call-stops : {a : Ended} → nx ≡ CallHere → 16 ≤ depth + 1 → a ≡ stopped start recs n tooManyFrames (procedureOf ix (f .procedure) .code + f .at) → does ≡ over a
     unfolding done rowNumber
@@ -115,10 +165,10 @@ module _ (t : List ℕ) (ix : Index) (start : Base) (f : Frame) (below : List Fr
     unfolding done
     does-call e l k w q h c = rw (e, lt-leb 16 (depth + 1) l, ← k, ← q, w, h, c) refl
 
-    pub call-ends : {takes : ℕ} {xs : List ℕ} → nx ≡ RetHere → depth ≡ 0 → takes ≡ takesIn t ix f row → xs ≡ resultsOf f takes
-        → does ≡ over (record { base = record { rooms = rooms; used = used; records = recs; store = s; frames = n }; end = Done takes; row = procedureOf ix (f .procedure) .code + f .at; results = xs })
+    pub call-ends : {takes row-at : ℕ} {xs : List ℕ} → nx ≡ RetHere → depth ≡ 0 → takes ≡ takesIn t ix f row → row-at ≡ procedureOf ix (f .procedure) .code + f .at → xs ≡ resultsOf f takes
+        → does ≡ over (record { base = record { rooms = rooms; used = used; records = recs; store = s; frames = n }; end = Done takes; row = row-at; results = xs })
     unfolding done rowNumber
-    call-ends e l k x = rw (e, eq-eqb depth 0 l, x, ← k) refl
+    call-ends e l k a x = rw (e, eq-eqb depth 0 l, x, a, ← k) refl
 
     pub does-return : {takes : ℕ} {h : Frame} → nx ≡ RetHere → (depth ≡ 0 → ⊥) → takes ≡ takesIn t ix f row → h ≡ afterReturn (getD below ((depth - 1) % 16) noFrame) f takes
         → does ≡ on (parts h below (depth - 1) rooms used recs s n)

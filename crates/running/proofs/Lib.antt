@@ -1,3 +1,4 @@
+pub mod Turned
 pub mod Laws
 pub mod Opcodes
 pub mod Live

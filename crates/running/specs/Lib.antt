@@ -1,2 +1,4 @@
 pub mod Running
 pub mod Stands
+pub mod Quick
+pub mod Outcome

@@ -4,8 +4,9 @@ ghost use Prim.Native.Nat.{_+_, _%_};
 ghost use Rattle.table.specs.Rows.{rowAt};
 ghost use Rattle.program.specs.Program.{localKind, codeOf};
 ghost use Rattle.turns.specs.Turns.{after};
-ghost use Rattle.running.specs.Running.{goesOn, hasKey, keyOf, frameAmong, putOwn, putBelow, nextSerial, afterPack, afterReturn, stopped, broken, starting, run};
-use answers::Next;
+ghost use Rattle.running.specs.Running.{hasKey, keyOf, putOwn, putBelow, nextSerial, afterPack, afterReturn, stopped, broken, starting, run};
+use crate::outcome::Outcome;
+use crate::quick::Quick;
 use cells::Entry;
 use cells::Frame;
 use cells::Operand;
@@ -15,6 +16,9 @@ use table::Row;
 use table::index::Index;
 use table::index::ProcedureEntry;
 use turns::Ask;
+
+pub mod outcome;
+pub mod quick;
 
 // The most records that live, and the most frames.
 const ROOMS: usize = 128;
@@ -81,28 +85,6 @@ impl Key {
     };
 }
 
-// Whether a turn asks for nothing but to go on.
-fn goes_on(ask: Ask) -> bool
-    ensures { λ r. ⌜ r ≡ goesOn ask ⌝ }
-{
-    match ask {
-        Ask::Go => true,
-        Ask::Stop(_) => false,
-        Ask::Read(_) => false,
-        Ask::Write(_, _) => false,
-        Ask::Borrow(_) => false,
-        Ask::Pack => false,
-        Ask::Unpack(_, _) => false,
-        Ask::Publish(_, _, _) => false,
-        Ask::Withdraw(_) => false,
-        Ask::Global(_) => false,
-        Ask::Exists(_) => false,
-        Ask::Call => false,
-        Ask::Ret => false,
-        Ask::Broken => false,
-    }
-}
-
 // Whether a turn asks under a key.
 fn has_key(ask: Ask) -> bool
     ensures { λ r. ⌜ r ≡ hasKey ask ⌝ }
@@ -159,19 +141,6 @@ fn kind_of_local(table: &[u8], own: ProcedureEntry, b: u16) -> u16
     (kind % 65536) as u16
 }
 
-// The frame at depth d: the running one, at this depth, or one below it, which is `there`.
-fn frame_among(running: Frame, depth: usize, there: Frame, d: usize) -> Frame
-    ensures { λ r. ⌜ r ≡ frameAmong running depth there d ⌝ }
-{
-    if depth == d {
-        return running;
-    }
-    if d < depth {
-        return there;
-    }
-    Frame::BLANK
-}
-
 // The running frame, and one below it, after a number was put into local l of the frame at depth d.
 fn put_own(running: Frame, depth: usize, d: usize, l: usize, n: u64) -> Frame
     ensures { λ r. ⌜ r ≡ putOwn running depth d l n ⌝ }
@@ -203,6 +172,13 @@ fn next_place(i: u16) -> u16
     ensures { λ r. ⌜ r ≡ after i ⌝ }
 {
     if i < 65535 { i + 1 } else { i }
+}
+
+// The row of the instruction at a place of a procedure whose instructions start at row `code`.
+fn row_number(code: u16, at: u16) -> usize
+    ensures { λ r. ⌜ r ≡ code + at ⌝ }
+{
+    (code as usize) + (at as usize)
 }
 
 // The frame after it packed its top operands.
@@ -280,106 +256,163 @@ pub fn run_call(table: &[u8], index: Index, first: Frame, budget: usize, start: 
         left -= 1;
         let own = index.procedure_entries[(frame.procedure % 128) as usize];
         let row = instruction_at(table, own, frame.at);
-        let named = index.type_entries[(row.b % 64) as usize];
-        let callee = index.procedure_entries[(row.b % 128) as usize];
-        let takes = steps::counts_of(table, row, own, named, callee).takes as usize;
-        let kind = kind_of_local(table, own, row.b);
-        let turn = turns::turn_of(frame, row, takes, kind, (depth % 256) as u8);
-        let ask = turn.ask;
-        let turned = turn.frame;
-        if goes_on(ask) {
-            frame = turned;
-        } else {
-            let y = (row.b % 256) as u8;
-            let at = (own.code as usize) + (frame.at as usize);
-            let r = answers::reference_of(ask);
-            let d = answers::depth_of(r);
-            let g = frame_among(turned, depth, below[d % FRAMES], d);
-            let x = answers::named_by(r, g);
-            let m = answers::room_of(x);
-            let room = rooms[(m % 128) as usize];
-            let live = memory::holds(&used, m, room, answers::serial_of(x));
-            let found = answers::found_at(r, x, room, live);
-            let key = key_of(store, ask, y);
-            let reply = answers::answer(
-                turned,
-                ask,
-                found,
-                room,
-                live,
-                key.has,
-                key.full,
-                key.entry,
-                row.b,
-            );
-            let next = reply.next;
-            let then = reply.frame;
-            match next {
-                Next::Go => {
-                    frame = then;
-                }
-                Next::Stop(number) => {
-                    return stopped(start, records, frames, number, at);
-                }
-                Next::Local(d, l, n) => {
-                    frame = put_own(then, depth, d, l, n);
-                    below[d % FRAMES] = put_below(below[d % FRAMES], depth, d, l, n);
-                }
-                Next::Field(r, j, n) => {
-                    frame = then;
-                    rooms[r % ROOMS] = room.set(j, Operand::Number(n));
-                }
-                Next::Pack => {
-                    let free = memory::free_room(&used);
-                    if ROOMS <= free {
-                        return stopped(start, records, frames, TOO_MANY_RECORDS, at);
+        let height = frame.height;
+        let b = (row.b % 16) as usize;
+        let top = quick::seen(height, 0, frame.operands[quick::less(height, 1) % 16]);
+        let second = quick::seen(height, 1, frame.operands[quick::less(height, 2) % 16]);
+        let x = quick::held(frame.count, row.b as usize, frame.locals[b]);
+        let quick = quick::quick_of(
+            table,
+            own,
+            row,
+            frame.serial,
+            (depth % 256) as u8,
+            frame.at,
+            height,
+            top,
+            second,
+            x,
+        );
+        match quick {
+            Quick::Go(h, to) => {
+                frame.height = h;
+                frame.at = to;
+            }
+            Quick::Push(h, to, x) => {
+                frame.operands[h % 16] = quick::put(h, x, frame.operands[h % 16]);
+                frame.height = quick::grown(h);
+                frame.at = to;
+            }
+            Quick::Store(h, to, x) => {
+                frame.locals[b] = quick::kept(frame.count, row.b as usize, x, frame.locals[b]);
+                frame.height = h;
+                frame.at = to;
+            }
+            Quick::Take(h, to, x) => {
+                frame.operands[h % 16] = quick::put(h, x, frame.operands[h % 16]);
+                frame.locals[b] = quick::kept(
+                    frame.count,
+                    row.b as usize,
+                    Operand::Empty,
+                    frame.locals[b],
+                );
+                frame.height = quick::grown(h);
+                frame.at = to;
+            }
+            Quick::Ask(h, to, ask) => {
+                let named = index.type_entries[(row.b % 64) as usize];
+                let callee = index.procedure_entries[(row.b % 128) as usize];
+                let takes = steps::counts_of(table, row, own, named, callee).takes as usize;
+                let y = (row.b % 256) as u8;
+                let at = row_number(own.code, frame.at);
+                let r = answers::reference_of(ask);
+                let d = answers::depth_of(r);
+                let l = outcome::local_in(r) % 16;
+                let there = below[d % FRAMES];
+                let x = outcome::named_among(
+                    r,
+                    depth,
+                    frame.serial,
+                    frame.count,
+                    frame.locals[l],
+                    there,
+                );
+                let m = answers::room_of(x);
+                let room = rooms[(m % 128) as usize];
+                let live = memory::holds(&used, m, room, answers::serial_of(x));
+                let found = answers::found_at(r, x, room, live);
+                let key = key_of(store, ask, y);
+                let outcome = outcome::outcome_of(
+                    ask,
+                    found,
+                    room,
+                    live,
+                    key.has,
+                    key.full,
+                    key.entry,
+                    row.b,
+                );
+                match outcome {
+                    Outcome::Go => {
+                        frame.height = h;
+                        frame.at = to;
                     }
-                    rooms[free] = Room::pack(records, y, frame, takes);
-                    used[free] = true;
-                    frame = after_pack(frame, takes, records, free as u8, y);
-                    records = next_serial(records);
-                }
-                Next::Unpack(r) => {
-                    frame = then.unpack(room);
-                    used[r % ROOMS] = false;
-                }
-                Next::Add(entry) => {
-                    frame = then;
-                    store = store.add(entry);
-                }
-                Next::Remove => {
-                    frame = then;
-                    store = store.remove(key.at);
-                }
-                Next::Call => {
-                    if FRAMES <= depth + 1 {
-                        return stopped(start, records, frames, TOO_MANY_FRAMES, at);
+                    Outcome::Push(x) => {
+                        frame.operands[h % 16] = quick::put(h, x, frame.operands[h % 16]);
+                        frame.height = quick::grown(h);
+                        frame.at = to;
                     }
-                    below[depth] = frame.drop_top(takes);
-                    depth += 1;
-                    frame = frame.enter(frames, y, takes, program::local_count(callee));
-                    frames = next_serial(frames);
-                }
-                Next::Ret => {
-                    if depth == 0 {
-                        return Ended {
-                            base: Base {
-                                rooms,
-                                used,
-                                records,
-                                store,
-                                frames,
-                            },
-                            end: End::Done(takes),
-                            row: at,
-                            results: answers::results_of(frame, takes),
-                        };
+                    Outcome::Stop(number) => {
+                        return stopped(start, records, frames, number, at);
                     }
-                    depth -= 1;
-                    frame = after_return(below[depth % FRAMES], frame, takes);
-                }
-                Next::Broken => {
-                    return broken(start, records, frames, at);
+                    Outcome::Local(d, l, n) => {
+                        frame.height = h;
+                        frame.at = to;
+                        frame = put_own(frame, depth, d, l, n);
+                        below[d % FRAMES] = put_below(below[d % FRAMES], depth, d, l, n);
+                    }
+                    Outcome::Field(r, j, n) => {
+                        frame.height = h;
+                        frame.at = to;
+                        rooms[r % ROOMS] = room.set(j, Operand::Number(n));
+                    }
+                    Outcome::Pack => {
+                        let free = memory::free_room(&used);
+                        if ROOMS <= free {
+                            return stopped(start, records, frames, TOO_MANY_RECORDS, at);
+                        }
+                        rooms[free] = Room::pack(records, y, frame, takes);
+                        used[free] = true;
+                        frame = after_pack(frame, takes, records, free as u8, y);
+                        records = next_serial(records);
+                    }
+                    Outcome::Unpack(r) => {
+                        frame.height = h;
+                        frame.at = to;
+                        frame = frame.unpack(room);
+                        used[r % ROOMS] = false;
+                    }
+                    Outcome::Add(entry) => {
+                        frame.height = h;
+                        frame.at = to;
+                        store = store.add(entry);
+                    }
+                    Outcome::Remove(x) => {
+                        frame.operands[h % 16] = quick::put(h, x, frame.operands[h % 16]);
+                        frame.height = quick::grown(h);
+                        frame.at = to;
+                        store = store.remove(key.at);
+                    }
+                    Outcome::Call => {
+                        if FRAMES <= depth + 1 {
+                            return stopped(start, records, frames, TOO_MANY_FRAMES, at);
+                        }
+                        below[depth] = frame.drop_top(takes);
+                        depth += 1;
+                        frame = frame.enter(frames, y, takes, program::local_count(callee));
+                        frames = next_serial(frames);
+                    }
+                    Outcome::Ret => {
+                        if depth == 0 {
+                            return Ended {
+                                base: Base {
+                                    rooms,
+                                    used,
+                                    records,
+                                    store,
+                                    frames,
+                                },
+                                end: End::Done(takes),
+                                row: at,
+                                results: answers::results_of(frame, takes),
+                            };
+                        }
+                        depth -= 1;
+                        frame = after_return(below[depth % FRAMES], frame, takes);
+                    }
+                    Outcome::Broken => {
+                        return broken(start, records, frames, at);
+                    }
                 }
             }
         }
@@ -390,6 +423,6 @@ pub fn run_call(table: &[u8], index: Index, first: Frame, budget: usize, start: 
         records,
         frames,
         BUDGET_SPENT,
-        (last.code as usize) + (frame.at as usize),
+        row_number(last.code, frame.at),
     )
 }
