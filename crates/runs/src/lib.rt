@@ -2,18 +2,17 @@
 ghost use mathlib.Core.Path.{_≡_};
 ghost use mathlib.Core.List.{List};
 ghost use Prim.Native.Nat.{_+_, _-_};
-ghost use Rattle.table.specs.Rows.{rowCount, rowAt};
+ghost use Rattle.table.specs.Rows.{rowCount};
 ghost use Rattle.rules.specs.Machine.{Entry};
-ghost use Rattle.rules.specs.Calls.{call, arguments};
+ghost use Rattle.rules.specs.Calls.{arguments};
 ghost use Rattle.rules.specs.Run.{runOf};
 ghost use Rattle.text.specs.Placing.{placed};
 ghost use Rattle.running.specs.Stands.{endLine};
-ghost use Rattle.runs.specs.Lists.{firstOf, endOf, textIn};
+ghost use Rattle.runs.specs.Lists.{firstOf, textIn};
 use cells::Frame;
 use cells::Operand;
 use running::Base;
 use running::End;
-use running::Ended;
 use table::Verdict;
 use table::format;
 use table::index::Index;
@@ -38,24 +37,6 @@ fn first_frame(list: &[u8], i: usize, serial: u32, procedure: u8, count: usize) 
         k += 1;
     }
     frame.enter(serial, procedure, n, count)
-}
-
-// Runs the call at row i of a list.
-fn run_at(table: &[u8], list: &[u8], index: Index, i: usize, mut base: Base) -> Ended
-    ensures { λ r. ⌜ r ≡ endOf (now (table .entry)) index base (call (rowAt (now (list .entry)) i .b) (rowAt (now (list .entry)) i .c) (arguments (now (list .entry)) (i + 1) (rowCount (now (list .entry)) - (i + 1)))) ⌝ }
-{
-    let row = table::row_at(list, i);
-    let callee = calls::procedure_in(index, row.b as usize);
-    let serial = base.frames;
-    let first = first_frame(
-        list,
-        i,
-        serial,
-        (row.b % 256) as u8,
-        program::local_count(callee),
-    );
-    base.frames = running::next_serial(serial);
-    running::run_call(table, index, first, row.c as usize, base)
 }
 
 // Puts the line of a call.
@@ -87,7 +68,18 @@ fn run_calls(table: &[u8], list: &[u8], index: Index, text: &mut [u8]) -> usize
     let mut i: usize = 0;
     while i < rows {
         if table::kind_at(list, i) == calls::CALL {
-            let ended = run_at(table, list, index, i, base);
+            let row = table::row_at(list, i);
+            let callee = calls::procedure_in(index, row.b as usize);
+            let serial = base.frames;
+            let first = first_frame(
+                list,
+                i,
+                serial,
+                (row.b % 256) as u8,
+                program::local_count(callee),
+            );
+            base.frames = running::next_serial(serial);
+            let ended = running::run_call(table, index, first, row.c as usize, base);
             let how = ended.end;
             let results = ended.results;
             end = put_end(text, end, call, how, ended.row, results);
