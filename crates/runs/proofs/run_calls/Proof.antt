@@ -66,13 +66,17 @@ loop-less : tie.Need-loop-less Inv-loop μ-loop
 loop-less c = omega (arith, c .before .before .before .before .before .before .before .before .before .before .before .before .before .before .before .before .before .loop-test .taken)
 
 loop-again : tie.Need-loop-again Inv-loop μ-loop
-loop-again c = 
+loop-again c =
     let inv = c .before .before .before .before .before .before .before .before .before .before .before .before .before .before .before .before .before .before .loop .inv in
     let b = c .before .before .before .before .before .before .before .before .before .before .before .before .before .before .before .before .before .before .loop .base in
     let begins = ap {B = Base} (λ (n : ℕ). record { rooms = b .rooms; used = b .used; records = b .records; store = b .store; frames = n }) (c .before .before .before .before .before .before .before .before .next-serial .ensures) in
-    let ends = end-is _ _ _ b (c .before .before .before .before .before .before .before .before .before .before .before .before .before .before .before .before .before .before .loop .i) (c .before .before .before .before .before .before .before .before .before .before .before .before .before .before .row-at .ensures) (c .before .before .before .before .before .before .before .before .before .before .before .before .procedure-in .ensures) (c .before .before .before .before .before .before .before .before .before .before .local-count .ensures) (c .before .before .before .before .before .before .before .before .before .first-frame .ensures) begins (c .before .before .before .before .before .before .run-call .ensures) in
-    (omega (arith, inv .0), omega (arith, c .before .before .before .before .before .before .before .before .before .before .before .before .before .before .before .before .before .loop-test .taken), search (needs, inv .2), search (needs, c .before .before .before .before .before .before .run-call .ok),
-    inv .4 ∙ text-call _ _ _ _ _ _ _ b (c .before .before .before .before .before .before .before .before .before .before .before .before .before .before .before .before .before .loop-test .taken) (is-kind _ _ callRow (c .before .before .before .before .before .before .before .before .before .before .before .before .before .before .before .before .kind-at .ensures) (c .before .before .before .before .before .before .before .before .before .before .before .before .before .before .before .if1 .taken)) ends (c .before .before .before .put-end .ensures))
+    let ends = end-is _ _ _ b (c .before .before .before .before .before .before .before .before .before .before .before .before .before .before .before .before .before .before .loop .i) (c .before .before .before .before .before .before .before .before .before .before .before .before .before .before .row-at .ensures) (c .before .before .before .before .before .before .before .before .before .before .before .before .procedure-in .ensures) (c .before .before .before .before .before .before .before .before .before .before .local-count .ensures) (c .before .before .before .before .before .before .before .before .before .first-frame .ensures) begins (c .before .before .before .before .before .before .run-call .ensures) in (
+      omega (arith, inv .0),
+      omega (arith, c .before .before .before .before .before .before .before .before .before .before .before .before .before .before .before .before .before .loop-test .taken),
+      search (needs, inv .2),
+      search (needs, c .before .before .before .before .before .before .run-call .ok),
+      inv .4 ∙ text-call _ _ _ _ _ _ _ b (c .before .before .before .before .before .before .before .before .before .before .before .before .before .before .before .before .before .loop-test .taken) (is-kind _ _ callRow (c .before .before .before .before .before .before .before .before .before .before .before .before .before .before .before .before .kind-at .ensures) (c .before .before .before .before .before .before .before .before .before .before .before .before .before .before .before .if1 .taken)) ends (c .before .before .before .put-end .ensures),
+    )
 
 add-i-2 : tie.Need-add-i-2 Inv-loop μ-loop
 add-i-2 c = search needs
@@ -81,10 +85,14 @@ loop-less-2 : tie.Need-loop-less-2 Inv-loop μ-loop
 loop-less-2 c = search needs
 
 loop-again-2 : tie.Need-loop-again-2 Inv-loop μ-loop
-loop-again-2 c = 
-    let inv = c .before .before .before .loop .inv in
-    (omega (arith, inv .0), omega (arith, c .before .before .loop-test .taken), inv .2, inv .3,
-    inv .4 ∙ text-other _ _ _ _ _ _ _ (c .before .before .before .loop .base) (c .before .before .loop-test .taken) (not-kind _ _ callRow (c .before .kind-at .ensures) (c .if1 .left)))
+loop-again-2 c =
+    let inv = c .before .before .before .loop .inv in (
+      omega (arith, inv .0),
+      omega (arith, c .before .before .loop-test .taken),
+      inv .2,
+      inv .3,
+      inv .4 ∙ text-other _ _ _ _ _ _ _ (c .before .before .before .loop .base) (c .before .before .loop-test .taken) (not-kind _ _ callRow (c .before .kind-at .ensures) (c .if1 .left)),
+    )
 
 slice-aggregate-put-entries : tie.Need-slice-aggregate-put-entries Inv-loop μ-loop
 slice-aggregate-put-entries c = search (needs, c .before .before .before .before .before .before .before .loop .inv .3)
@@ -96,7 +104,7 @@ same-length : tie.Need-same-length Inv-loop μ-loop
 same-length c = search needs
 
 returns : tie.Need-returns Inv-loop μ-loop
-returns c = 
+returns c =
     let inv = c .before .before .before .before .before .before .before .before .before .before .loop .inv in
     text-done _ _ _ _ _ _ _ _ (c .before .before .before .before .before .before .before .before .before .before .loop .base) (c .before .before .before .before .before .before .before .before .before .loop-test .left) (inv .4) (c .before .before .put-entries .ensures)
 
