@@ -14,7 +14,7 @@ use lib.ListN.{getD, List·getD-eq-default}
 use Rattle.laws.specs.Lists.{member, every, count, nth}
 use Rattle.laws.proofs.Lists.{every-at, count-zero, count-yes, count-no}
 use Rattle.table.specs.declared.Row.{Row}
-use Rattle.table.specs.Format.{typeKind, fieldKind, procedureKind, localKind, resultKind, instructionKind, opOp}
+use Rattle.table.specs.Format.{moduleKind, typeKind, fieldKind, procedureKind, localKind, resultKind, instructionKind, opOp}
 use Rattle.table.specs.Rows.{rowCount, rowAt, kindAt, isKind}
 use Rattle.table.specs.Index.{indexOf, indexedRows, resultsStart, codeStart, codeEnd}
 use Rattle.table.proofs.Laws.{type-within, type-fields, procedure-parts, procedure-locals, procedure-results}
@@ -182,10 +182,14 @@ code-values s row e k = leb-false 20 (row .a) (rw k at (value-tests s row e .0))
 op-values : (s : Above) (row : Row) → badValue s row ≡ false → row .kind ≡ instructionKind → row .a ≡ opOp → row .b ≤ 3
 op-values s row e k o = ltb-false 3 (row .b) (rw (k, o) at (value-tests s row e .1))
 
--- the sort of a field
+-- the sort of a field, and whether a module is trusted
 field-values : (s : Above) (row : Row) → badValue s row ≡ false → row .kind ≡ fieldKind → row .a < 2
 unfolding usesA uses
 field-values s row e k = leb-false 2 (row .a) (rw k at (value-tests s row e .0))
+
+module-values : (s : Above) (row : Row) → badValue s row ≡ false → row .kind ≡ moduleKind → row .a < 2
+unfolding usesA uses
+module-values s row e k = leb-false 2 (row .a) (rw k at (value-tests s row e .0))
 
 -- Row i of a table whose rows have no fault.
 module _ (t : List ℕ) (fine : (i : ℕ) → i < rowCount t → faultAt t i ≡ 0) (i : ℕ) (h : i < rowCount t) where
@@ -203,3 +207,8 @@ module _ (t : List ℕ) (fine : (i : ℕ) → i < rowCount t → faultAt t i ≡
   pub row-sort : kindAt t i ≡ fieldKind → rowAt t i .a < 2
   unfolding kindAt
   row-sort k = field-values (aboveAt t i) (rowAt t i) (tests t fine i h .1) k
+
+  -- A, if it is a module
+  pub row-trust : kindAt t i ≡ moduleKind → rowAt t i .a < 2
+  unfolding kindAt
+  row-trust k = module-values (aboveAt t i) (rowAt t i) (tests t fine i h .1) k

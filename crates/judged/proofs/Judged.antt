@@ -16,6 +16,7 @@ pub judged : (t : List ℕ) (n : ℕ) → Bytes t → judgeOf t ≡ Accepted n �
 judged t n bytes e =
     let a = accepted t n e in
     record {
+      accepted = a;
       procedure = procedure t a;
       instruction = instruction t a bytes;
       declared = declared t a;

@@ -19,6 +19,7 @@ use Rattle.operands.specs.Flow.{onto, effectIn, Flow}
 use Rattle.flow.specs.Steps.{nexts}
 use Rattle.flow.specs.Walks.{Slot}
 use Rattle.locals.specs.Locals.{parameterCount}
+use Rattle.judging.specs.Judging.{AcceptedTable}
 use Rattle.walks.specs.Checked.{WalkOf, Checked}
 
 -- bytes: numbers below 256
@@ -82,6 +83,7 @@ pub record Declared (t : List ℕ) (ix : Index) (y : ℕ) : Type 0 where
 
 -- all of them
 pub record Judged (t : List ℕ) (ix : Index) : Type 0 where
+  pub accepted : AcceptedTable t
   pub procedure : (p : ℕ) → p < ix .procedures → Procedure t ix p
   pub instruction : (p i : ℕ) → p < ix .procedures → i < rowCount (codeOf t (procedureIn ix p)) → Instruction t ix p i
   pub declared : (y : ℕ) → y < ix .types → Declared t ix y

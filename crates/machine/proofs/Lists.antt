@@ -26,7 +26,7 @@ use Rattle.rules.proofs.Sounds.{nth-app}
 use Rattle.rules.proofs.Typing.{_⊑_, snoc-more, snoc-last}
 use Rattle.rules.proofs.Running.{OutcomeOk, Rest}
 use Rattle.rules.proofs.Steps.{StateOk, DidAt}
-use Rattle.rules.proofs.Demand3.{BaseOk, call-run, nothing-ok, begin-ok, buried-count, buried-dead}
+use Rattle.rules.proofs.Invariant.{BaseOk, call-run, nothing-ok, begin-ok, buried-count, buried-dead}
 use Rattle.rules.proofs.Ends.{ends, last-append, last-quiet, Quiet, go-quiet}
 use Rattle.rules.proofs.Callable.{good-calls}
 use Rattle.cells.specs.declared.Reference.{Reference}
@@ -194,7 +194,7 @@ module _ (t : List ℕ) where
     lines-same (call q budget args ∷ cs) i mb b (also c a) v s =
         let r = go t (indexOf t) budget (begin t (indexOf t) q args b) in
         let one = call-same i q budget args mb b c v s in
-        let later = lines-same cs (i + 1) _ (baseAfter t (indexOf t) b r) a (call-run t J q budget args b c v .1) (one .1) in
+        let later = lines-same cs (i + 1) _ (baseAfter t (indexOf t) b r) a (call-run t J q budget args b c v) (one .1) in
         events-lines i b r (history t (indexOf t) cs (baseAfter t (indexOf t) b r)) (go-quiet t (indexOf t) budget (begin t (indexOf t) q args b)) ∙ rw (one .0, later) refl
 
     -- what there is at the end
@@ -206,7 +206,7 @@ module _ (t : List ℕ) where
         let one = call-same 0 q budget args mb b d v s in
         let quiet = go-quiet t (indexOf t) budget (begin t (indexOf t) q args b) in
         rw (last-append (eventsOf t (indexOf t) b r) (history t (indexOf t) cs (baseAfter t (indexOf t) b r)) c, events-last b r c quiet)
-        (last-same cs _ (baseAfter t (indexOf t) b r) (baseAfter t (indexOf t) b r) refl a (call-run t J q budget args b d v .1) (one .1))
+        (last-same cs _ (baseAfter t (indexOf t) b r) (baseAfter t (indexOf t) b r) refl a (call-run t J q budget args b d v) (one .1))
 
   store-same : (mb : MBase) (b : Base) → Shown mb b → storeLines (λ (es : List Entry). es) b ≡ mstoreLines mb
   store-same (mbase rooms recs es n) (base rs st m) s = entries-same (s .2 .rooms-show) (s .2 .store)
@@ -255,7 +255,7 @@ module _ (t : List ℕ) (J : Judged t (indexOf t)) where
 
   pub between-after : (q budget : ℕ) (args : List ℕ) (mb : MBase) → Callable t (indexOf t) q budget args → Between mb → Between (mafter mb (mgo t (indexOf t) budget (mbegin t (indexOf t) q args mb)))
   between-after q budget args mb c w =
-      (baseAfter t (indexOf t) (w .0) (go t (indexOf t) budget (begin t (indexOf t) q args (w .0))), call-run t J q budget args (w .0) c (w .1) .1, call-same t J 0 q budget args mb (w .0) c (w .1) (w .2) .1)
+      (baseAfter t (indexOf t) (w .0) (go t (indexOf t) budget (begin t (indexOf t) q args (w .0))), call-run t J q budget args (w .0) c (w .1), call-same t J 0 q budget args mb (w .0) c (w .1) (w .2) .1)
 
 -- the text of a good list over an accepted table, as the machine writes it
 pub text-same : (t l : List ℕ) (n k : ℕ) → Bytes t → Bytes l → judgeOf t ≡ Accepted n → listOf t (indexOf t) l ≡ Accepted k → textOf (λ (es : List Entry). es) (historyOf t l) ≡ mtext t (indexOf t) (callsOf l)

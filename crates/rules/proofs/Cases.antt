@@ -29,7 +29,7 @@ use Rattle.rules.specs.Machine.{Value, num, obj, toLocal, toField, toRec
 use Rattle.rules.specs.Calls.{allNumbers}
 use Rattle.rules.specs.Step.{pushedOn, one, two, withNumber, withRecord, numberAt, recordAt, fieldsAt, withLocal, fillable, fieldReference, underKey, truth, calculations, actions, returned, noneHeld, nothingUnder}
 use Rattle.rules.specs.Ownership.{same as sameId, inValue, inValues, inSlot, inLocals, inFrames, inRecords, inStore, livesAt}
-use Rattle.rules.specs.Words.{moduleOf, declarer, guardedField}
+use Rattle.rules.proofs.Indexed.{moduleIn, declarerIn, guardedIn}
 use Rattle.rules.specs.Claim.{All, none-left, also, Owned, IsNumber}
 use Rattle.rules.proofs.Counts.{held-rev, held-set, held-start, heap-set, heap-snoc, alive-set, alive-snoc, alive-put, vals-set, same-one, alive-gone, find-drop, put-set}
 use Rattle.rules.proofs.Changes.{clash, Change, same, wrote, packed, unpacked, published, withdrew}
@@ -62,7 +62,7 @@ module _ {t : List ℕ} {T W : List ℕ} {id p i : ℕ} {ops vs under : List Val
   effect-is : (a : ℕ) → op ≡ a → effectIn t (indexOf t) (procedureIn (indexOf t) p) (R .instr .flow .top) i ≡ effect a
   effect-is a e = effect-at t (indexOf t) (procedureIn (indexOf t) p) i a (R .instr .flow .top) e
 
-  has-at : (a : ℕ) → op ≡ a → Has t (indexOf t) T W (moduleOf (indexOf t) p) vs (effect a .takes) (R .bs)
+  has-at : (a : ℕ) → op ≡ a → Has t (indexOf t) T W (moduleIn (indexOf t) p) vs (effect a .takes) (R .bs)
   has-at a e = rw (ap (λ (x : Effect). x .takes) (effect-is a e)) at (R .has)
 
   given-at : (a : ℕ) → op ≡ a → given R ≡ effect a .gives
@@ -79,15 +79,15 @@ module _ {t : List ℕ} {T W : List ℕ} {id p i : ℕ} {ops vs under : List Val
   fall a e x y = R .instr .falls (λ q. x (sym e ∙ q)) (λ q. y (sym e ∙ q))
 
   kept : (a : ℕ) → op ≡ a → eqb a Format.opMvLoc ≡ false → eqb a Format.opStLoc ≡ false
-      → Slots t (indexOf t) T W (moduleOf (indexOf t) p) ls (localKinds t (procedureIn (indexOf t) p)) (localsThen R)
+      → Slots t (indexOf t) T W (moduleIn (indexOf t) p) ls (localKinds t (procedureIn (indexOf t) p)) (localsThen R)
   kept a e x y = rw (locals-kept t (indexOf t) (procedureIn (indexOf t) p) i (R .L) (R .O) a e x y) (R .slots)
 
   -- nothing is pushed, or one value that fits at any place
-  no-value : {U X : List ℕ} (a : ℕ) → op ≡ a → effect a .gives ≡ [] → Has t (indexOf t) U X (moduleOf (indexOf t) p) [] (given R) (pushedMarks R)
+  no-value : {U X : List ℕ} (a : ℕ) → op ≡ a → effect a .gives ≡ [] → Has t (indexOf t) U X (moduleIn (indexOf t) p) [] (given R) (pushedMarks R)
   no-value a e g = rw (given-at a e ∙ g) (push-none (pushedMarks R) (marks-length ∙ ap length (given-at a e ∙ g)))
 
-  a-value : {U X : List ℕ} (a : ℕ) → op ≡ a → {v : Value} {k : ℕ} → effect a .gives ≡ k ∷ [] → ((m : Bool) → Fit t (indexOf t) U X (moduleOf (indexOf t) p) v k m)
-      → Has t (indexOf t) U X (moduleOf (indexOf t) p) (v ∷ []) (given R) (pushedMarks R)
+  a-value : {U X : List ℕ} (a : ℕ) → op ≡ a → {v : Value} {k : ℕ} → effect a .gives ≡ k ∷ [] → ((m : Bool) → Fit t (indexOf t) U X (moduleIn (indexOf t) p) v k m)
+      → Has t (indexOf t) U X (moduleIn (indexOf t) p) (v ∷ []) (given R) (pushedMarks R)
   a-value a e g f = rw (given-at a e ∙ g) (push-one (pushedMarks R) (marks-length ∙ ap length (given-at a e ∙ g)) f)
 
   -- what the instruction does, by opcode
@@ -127,7 +127,7 @@ module _ {t : List ℕ} {T W : List ℕ} {id p i : ℕ} {ops vs under : List Val
 
   -- it is full, with a value of its kind
   full-local : op ≡ Format.opMvLoc ⊎ (op ≡ Format.opCpLoc ⊎ (op ≡ Format.opStLoc ⊎ op ≡ Format.opBorrowLoc)) → needsFull op ≡ true
-      → (v : Value) × (m : Bool) × (nth ls b ≡ some (some v)) × (getD (R .L) b empty ≡ full m) × Fit t (indexOf t) T W (moduleOf (indexOf t) p) v (localKind t (procedureIn (indexOf t) p) b) m
+      → (v : Value) × (m : Bool) × (nth ls b ≡ some (some v)) × (getD (R .L) b empty ≡ full m) × Fit t (indexOf t) T W (moduleIn (indexOf t) p) v (localKind t (procedureIn (indexOf t) p) b) m
   full-local e f =
       let c = R .instr .checked (R .walk) .full-there f in
       let s = slot-full (R .slots) b (c .0) (c .1) in
@@ -233,7 +233,7 @@ module _ {t : List ℕ} {T W : List ℕ} {id p i : ℕ} {ops vs under : List Val
       rw shape (ok-write-go e (a .0) (q .1) shape (a .2) (loose (q .6) refl) (number-at (R .stack) (R .types) (R .records) (q .6) refl))
 
   -- the module of the type that an instruction works on is its own
-  owns : (a : ℕ) → op ≡ a → Format.opBorrowFld ≤ a → a ≤ Format.opExists → typeIn (indexOf t) (cond (eqb a Format.opBorrowFld) (b / 8) b) .owner ≡ moduleOf (indexOf t) p
+  owns : (a : ℕ) → op ≡ a → Format.opBorrowFld ≤ a → a ≤ Format.opExists → typeIn (indexOf t) (cond (eqb a Format.opBorrowFld) (b / 8) b) .owner ≡ moduleIn (indexOf t) p
   unfolding namedType
   owns a e x y = rw e at (R .instr .flow .ownType (rw e x) (rw e y))
 
@@ -393,7 +393,7 @@ module _ {t : List ℕ} {T W : List ℕ} {id p i : ℕ} {ops vs under : List Val
           serial = simp length-append (omega (arith, R .serial));
           frames = runs
               (entered (R .judged) n b (R .instr .called e) (rw (R .serial) at (snoc-last W b)) vs
-              (λ cs l. has-more (λ i u z. z) later (clean 15 e (R .instr .checked (R .walk) .none-given e) (moduleOf (indexOf t) b) cs l)))
+              (λ cs l. has-more (λ i u z. z) later (clean 15 e (R .instr .checked (R .walk) .none-given e) (moduleIn (indexOf t) b) cs l)))
               (over e refl (rw (given-at 15 e) at (waits R {U = T} {X = W ++ (b ∷ [])} (λ i u z. z) later (fall 15 e (λ z. omega arith) (λ z. omega arith)) marks-length (kept 15 e refl refl))) (suspended-more (λ i u z. z) later (R .suspended)));
           records = R .records;
           store = R .store;
@@ -487,7 +487,7 @@ arrive {t} {T} {W} vs h st n (over {p} {ops} e d f s) a ty se hp sr g C c = (
       len = f .len;
       gaps = refl;
       kinds = f .kinds;
-      has = has-push (a (moduleOf (indexOf t) p) (f .G) (f .gaps)) (f .has);
+      has = has-push (a (moduleIn (indexOf t) p) (f .G) (f .gaps)) (f .has);
       slots = f .slots;
       walk = f .walk;
     }) s;

@@ -1,264 +1,218 @@
--- Demand 3, over the one history of a list of calls.
-use Prim.Native.Nat.{ℕ, zero, suc, _+_, _-_, _^_, _<_, _≤_}
+-- Demand 3, over every event of a list of calls.
+use Prim.Native.Nat.{ℕ, zero, suc, _+_, _-_, _<_, _≤_}
 use mathlib.Core.Path.{_≡_, refl, ap, sym, _∙_}
 use mathlib.Core.List.{List, [], _∷_, _++_, map}
-use mathlib.Core.Bool.{Bool, true, false, _&&_, true≢false}
+use mathlib.Core.Bool.{Bool, true, false}
 use mathlib.Core.Option.{Option, none, some}
+use mathlib.Core.Logic.{_⊎_, inl, inr, ⊎-elim, _≢_}
 use native.Mathlib.Omega.{arith}
-use borrow.Author.Tests.{eqb-true}
-use lib.ListN.{length, set, drop, replicate, length-append, length-replicate, length-map, length-drop, getElem? as nth}
+use lib.ListN.{length, set, drop, getElem? as nth}
+use Rattle.table.specs.declared.Row.{Row}
 use Rattle.table.specs.declared.Verdict.the-variants.{Accepted}
 use Rattle.table.specs.declared.index.Index.{Index}
-use Rattle.table.specs.Format.{maxResults}
-use Rattle.table.specs.Index.{indexOf}
-use Rattle.table.specs.Rows.{rowAt}
-use Rattle.program.specs.Program.{number, procedureIn, codeOf, localCount, parameterKinds}
+use Rattle.table.specs.Format.{maxResults, opPack, opUnpack, opMoveTo, opMoveFrom}
+use Rattle.table.specs.Index.{indexOf, ownerAt}
+use Rattle.table.specs.Rows.{rowCount, rowAt}
+use Rattle.program.specs.Program.{procedureIn, codeOf}
 use Rattle.judging.specs.Judging.{judgeOf}
 use Rattle.judged.specs.Judged.{Bytes, Judged}
 use Rattle.judged.proofs.Judged.{judged}
-use Rattle.rules.specs.Machine.{Value, num, Cell, gone, here, Entry, Frame, frame, State, state, Outcome, next, finished, stopped, stuck, liveCount}
-use Rattle.rules.specs.Step.{startLocals, instruction, step}
-use Rattle.rules.specs.Calls.{Call, call, allNumbers, listOf, callsOf}
-use Rattle.rules.specs.History.{Base, base, Event, moment, ended, bury, restored, afterwards, Run, ran, afterMoment, rowUp, onward, go, begin, eventsOf, baseAfter, history, nothing, lastBase}
+use Rattle.reach.specs.Reach.{Mem}
+use Rattle.rules.specs.Machine.{Value, num, toField, Cell, gone, here, Entry, Frame, frame, State, state, Outcome, next, finished, stopped, stuck}
+use Rattle.rules.specs.Step.{instruction, step}
+use Rattle.rules.specs.Calls.{Call, listOf, callsOf}
+use Rattle.rules.specs.History.{Base, base, Event, moment, ended, bury, restored, afterwards, rowUp, history, nothing}
 use Rattle.rules.specs.Run.{historyOf}
-use Rattle.rules.specs.Ownership.{inValues, inRecords, inStore, livesAt}
-use Rattle.rules.specs.Words.{moduleOf, declarer, guardedField, Exists}
-use Rattle.rules.specs.Callable.{Callable, GoodCall}
-use Rattle.rules.specs.Claim.{All, none-left, also, Owned, Proper, ProperOutcome, ReadyState, KeptState, OwnedState, Restored, EndOf, Later, Safe, safe, ends, Nested, Reached, IsNumber}
-use Rattle.rules.proofs.Counts.{held-start}
-use Rattle.rules.proofs.Changes.{clash, Change, Limited, limits, grows, keyCount}
-use Rattle.rules.proofs.Sounds.{changed-ok, written-ok, made-ok, broken-ok, entered-ok, left-ok, nth-app}
-use Rattle.rules.proofs.Typing.{Word, Has, hnil, hcons, fnum, CellOk, EntryOk, _⊑_, snoc-last, cells-more, entries-more}
-use Rattle.rules.proofs.Frames.{FrameOk, bottom, Stack, runs, typeOf, Inv}
-use Rattle.rules.proofs.Entering.{entered}
+use Rattle.rules.specs.Words.{typeCount, moduleOf, declarer, guardedField, Holds, operand, Exists, NumberIn, IsEntry, InStore}
+use Rattle.rules.specs.Callable.{GoodCall}
+use Rattle.rules.specs.Claim.{All, none-left, also, IsNumber, Owned, Sound, Ready, Kept, Proper, By, SafeState, SafeOutcome, goes as goes-on, returnsLast, stops as stops-there, Restored, SafeEnd, finishes, restores, Between, Later, Safe, safe, ends as ends-there}
+use Rattle.rules.specs.Chain.{Chained, Claimed}
+use Rattle.rules.proofs.Changes.{clash, grows}
+use Rattle.rules.proofs.Indexed.{moduleIn, declarerIn}
+use Rattle.rules.proofs.Sounds.{changed-ok, written-ok, fields-ok, made-ok, fresh-ok, broken-ok, entered-ok, left-ok, nth-app, head-of}
+use Rattle.rules.proofs.Typing.{CellOk, EntryOk}
+use Rattle.rules.proofs.Frames.{FrameOk, Suspended, Stack, runs, typeOf, Inv}
 use Rattle.rules.proofs.Running.{Rest, OutcomeOk}
-use Rattle.rules.proofs.Cases.{and-both}
-use Rattle.rules.proofs.Steps.{StateOk, DidAt, step-ok, state-ready}
-use Rattle.rules.proofs.Guests.{stack-kept, operands-own}
-use Rattle.rules.proofs.Owning.{nested, reached}
+use Rattle.rules.proofs.Steps.{StateOk, DidAt, step-ok, runs-on, takes-there}
+use Rattle.rules.proofs.Guests.{stack-kept}
+use Rattle.rules.proofs.Owning.{nested, plain, reached, shaped, entries-typed}
+use Rattle.rules.proofs.Worded.{types-are, procedures-are, type-is, declarer-is, module-is}
+use Rattle.rules.proofs.Placed.{place-is, end-is, row-is, kind-is, owner-is, guests-are}
+use Rattle.rules.proofs.Labels.{types-hold, links}
+use Rattle.rules.proofs.Outcomes.{OutQ, goes, ends}
 use Rattle.rules.proofs.Callable.{good-calls}
-
--- Restored records: those of the beginning, the others gone
-buried-held : (r : ℕ) (h l : List Cell) → inRecords r (h ++ map bury l) ≡ inRecords r h
-buried-held r [] [] = refl
-buried-held r [] (gone y ∷ l) = omega (arith, buried-held r [] l)
-buried-held r [] (here y vs ∷ l) = omega (arith, buried-held r [] l)
-buried-held r (c ∷ h) l = omega (arith, buried-held r h l)
-
-buried-lives : (r : ℕ) (h l : List Cell) → livesAt (h ++ map bury l) r ≡ livesAt h r
-buried-lives r [] [] = refl
-buried-lives zero [] (gone y ∷ l) = refl
-buried-lives zero [] (here y vs ∷ l) = refl
-buried-lives (suc r) [] (c ∷ l) = buried-lives r [] l
-buried-lives zero (c ∷ h) l = refl
-buried-lives (suc r) (c ∷ h) l = buried-lives r h l
-
-pub buried-count : (h l : List Cell) → liveCount (h ++ map bury l) ≡ liveCount h
-buried-count [] [] = refl
-buried-count [] (gone y ∷ l) = omega (arith, buried-count [] l)
-buried-count [] (here y vs ∷ l) = omega (arith, buried-count [] l)
-buried-count (c ∷ h) l = omega (arith, buried-count h l)
-
-buried-types : (h l : List Cell) → map typeOf (h ++ map bury l) ≡ map typeOf h ++ map typeOf l
-buried-types [] [] = refl
-buried-types [] (gone y ∷ l) = rw (buried-types [] l)
-buried-types [] (here y vs ∷ l) = rw (buried-types [] l)
-buried-types (c ∷ h) l = rw (buried-types h l)
-
-buried-cells : (t : List ℕ) (ix : Index) (T : List ℕ) (h l : List Cell) → All (CellOk t ix T) h → All (CellOk t ix T) (h ++ map bury l)
-buried-cells t ix T [] [] a = none-left
-buried-cells t ix T [] (gone y ∷ l) a = also tt (buried-cells t ix T [] l none-left)
-buried-cells t ix T [] (here y vs ∷ l) a = also tt (buried-cells t ix T [] l none-left)
-buried-cells t ix T (c ∷ h) l (also k a) = also k (buried-cells t ix T h l a)
-
-pub buried-dead : (h l : List Cell) (id y : ℕ) → length h ≤ id → ¬ (Exists (h ++ map bury l) id y)
-buried-dead [] [] id y b a = clash (cc (a .1))
-buried-dead [] (gone u ∷ l) zero y b a = clash (cc (a .1))
-buried-dead [] (here u vs ∷ l) zero y b a = clash (cc (a .1))
-buried-dead [] (c ∷ l) (suc id) y b a = buried-dead [] l id y (omega arith) a
-buried-dead (c ∷ h) l zero y b a = omega arith
-buried-dead (c ∷ h) l (suc id) y b a = buried-dead h l id y (omega arith) a
-
-all-append : {B : Type 0} {Q : B → Type 0} {l r : List B} → All Q l → All Q r → All Q (l ++ r)
-all-append none-left b = b
-all-append (also k a) b = also k (all-append a b)
+use Rattle.rules.proofs.Invariant.{used, usedAt, BaseOk, MomentOk, EndOk, EventOk, HandedAt, handed-at, outcome-ok, restored-ok, restored-length, buried-dead, chain-ok, nothing-ok}
+use Rattle.rules.proofs.Every.{chained}
 
 all-head : {B : Type 0} {Q : B → Type 0} {x : B} {l : List B} → All Q (x ∷ l) → Q x
 all-head (also q a) = q
 
-restored-rest : (t : List ℕ) (h h′ : List Cell) (st : List Entry) → Rest t h st → Rest t (restored h h′) st
-restored-rest t h h′ st v =
-    let l = drop (length h) h′ in
-    let U = map typeOf h ++ map typeOf l in
-    let g : _⊑_ (v .T) U = λ i y e. nth-app (map typeOf h) (map typeOf l) i y (rw (v .types) e) in
-    record {
-      T = U;
-      types = buried-types h l;
-      records = buried-cells t (indexOf t) U h l (cells-more t (indexOf t) (v .T) U g (v .records));
-      store = entries-more (v .T) U g (v .store);
-      owned = λ r. omega (arith, v .owned r, buried-held r h l, buried-lives r h l);
-    }
-
-pub restored-length : (h h′ : List Cell) → length h ≤ length h′ → length h′ ≤ length (restored h h′)
-restored-length h h′ l = simp (length-append, length-map, length-drop) (omega arith)
-
--- arguments are numbers
-numbers-fit : {t : List ℕ} {ix : Index} {T W : List ℕ} {m : ℕ} (ks args : List ℕ) (cs : List Bool) → allNumbers ks ≡ true → length args ≡ length ks → length cs ≡ length ks → All (λ (x : ℕ). x < 2 ^ 64) args
-    → Has t ix T W m (map num args) ks cs
-unfolding allNumbers
-numbers-fit [] [] [] e a c w = hnil
-numbers-fit [] [] (b ∷ cs) e a c w = absurd (omega arith)
-numbers-fit [] (x ∷ args) cs e a c w = absurd (omega arith)
-numbers-fit (k ∷ ks) [] cs e a c w = absurd (omega arith)
-numbers-fit (k ∷ ks) (x ∷ args) [] e a c w = absurd (omega arith)
-numbers-fit (k ∷ ks) (x ∷ args) (b ∷ cs) e a c (also u w) = let z = and-both _ _ e in hcons (fnum u (eqb-true k number (z .0))) (numbers-fit ks args cs (z .1) (omega arith) (omega arith) w)
-
-numbers-free : (r : ℕ) (args : List ℕ) → inValues r (map num args) ≡ 0
-numbers-free r [] = refl
-numbers-free r (x ∷ args) = omega (arith, numbers-free r args)
+pub all-map : {B : Type 0} {P Q : B → Type 0} → ((x : B) → P x → Q x) → {l : List B} → All P l → All Q l
+all-map f none-left = none-left
+all-map f (also {x} p a) = also (f x p) (all-map f a)
 
 module _ (t : List ℕ) (J : Judged t (indexOf t)) where
-  nonempty : {T W : List ℕ} {fs : List Frame} → Stack t (indexOf t) T W fs → fs ≡ [] → ⊥
-  nonempty (runs f s) e = clash (cc)
-
-  -- what a step did is proper
-  proper : {id p i : ℕ} {ops : List Value} {ls : List (Option Value)} {fs : List Frame} {h h′ : List Cell} {st st′ : List Entry} {n : ℕ} → StateOk t (state (frame id p i ops ls ∷ fs) h st n)
-      → DidAt t (state (frame id p i ops ls ∷ fs) h st n) h′ st′ → Proper t (indexOf t) p i ops h st h′ st′
-  unfolding instruction
-  proper v k = record {
-    changed = λ id y j x x′ g a b d. let z = changed-ok (guardedField t (indexOf t)) k (operands-own J (v .frames)) id y j x x′ g a b d in ((z .0, z .1), z .2);
-    written = λ id y j x x′ z a b w. written-ok k id y j x′ z (w .1 .0) b (w .0) (w .1 .1);
-    made = made-ok k;
-    broken = broken-ok k;
-    published = entered-ok k;
-    withdrawn = left-ok k;
-    grows = grows k;
+  -- records and entries
+  sound : (T : List ℕ) (h : List Cell) → map typeOf h ≡ T → All (CellOk t (indexOf t) T) h → (fs : List Frame) (st : List Entry) → All (EntryOk T) st → Owned fs h st → Sound t fs h st
+  sound T h types records fs st store owned = record {
+    owned = owned;
+    nested = nested t J T h types records fs st owned;
+    plain = plain t J T h types records;
+    shaped = λ id y vs e. let z = shaped t J T h types records id y vs e in (rw (types-are t (J .accepted)) at (z .0), rw (type-is t (J .accepted) y (z .0)) at (z .1));
+    entered = entries-typed t J T h types records fs st store owned;
   }
 
-  proper-outcome : (s : State) (o : Outcome) → StateOk t s → OutcomeOk t (DidAt t s) o → ProperOutcome t (indexOf t) s o
-  proper-outcome (state [] h st n) o v k = absurd (nonempty (v .frames) refl)
-  proper-outcome (state (frame id p i ops ls ∷ fs) h st n) (next (state fs′ h′ st′ n′)) v k = proper v (k .1)
-  proper-outcome (state (frame id p i ops ls ∷ fs) h st n) (finished vs (state fs′ h′ st′ n′)) v k = proper v (k .1)
-  proper-outcome (state (frame id p i ops ls ∷ fs) h st n) (stopped j) v k = tt
-  proper-outcome (state (frame id p i ops ls ∷ fs) h st n) stuck v k = k
+  between : (h : List Cell) (st : List Entry) → Rest t h st → Between t (indexOf t) h st
+  between h st v = record { sound = sound (v .T) h (v .types) (v .records) [] st (v .store) (v .owned); reached = reached t J (v .T) h (v .types) (v .records) st (v .owned) }
 
-  kept : (s : State) → StateOk t s → KeptState t (indexOf t) s
-  kept (state fs h st n) v = stack-kept J (v .frames)
+  -- a running frame
+  module _ {T W : List ℕ} {id p i : ℕ} {ops : List Value} {ls : List (Option Value)} (f : FrameOk t (indexOf t) T W i [] id p ops ls) where
+    few : p < 128
+    few = J .procedure p (f .there) .low
 
-  owned : (s : State) → StateOk t s → OwnedState t (indexOf t) s
-  owned (state fs h st n) v = (v .owned, nested t J (v .T) h (v .types) (v .records) fs st (v .owned))
+    abbrev here-row : ℕ
+    here-row = procedureIn (indexOf t) p .code + i
 
-  safe-moment : (s : State) (row : ℕ) (o : Outcome) → StateOk t s → ProperOutcome t (indexOf t) s o → Safe t (indexOf t) (moment s row o)
-  safe-moment s row o v k = safe (state-ready t J s v) (kept s v) (owned s v) k
+    found : rowAt (codeOf t (procedureIn (indexOf t) p)) i ≡ rowAt t here-row
+    found = row-is t (J .accepted) p (f .there) few i (f .inside)
 
-  -- within the limits, with at least z identities of records used
-  abbrev Within : ℕ → State → Type 0
-  Within z (state fs h st n) = Limited h st × (z ≤ length h)
+    stands-in : ownerAt t here-row ≡ moduleOf t p
+    stands-in = owner-is t (J .accepted) p (f .there) few i (f .inside) ∙ module-is t (J .accepted) p (f .there) few
 
-  did-limits : (z : ℕ) (s : State) (h′ : List Cell) (st′ : List Entry) → DidAt t s h′ st′ → Within z s → Limited h′ st′ × (z ≤ length h′)
-  did-limits z (state [] h st n) h′ st′ d l = absurd d
-  did-limits z (state (frame id p i ops ls ∷ fs) h st n) h′ st′ d l = (limits d (l .0), omega (arith, grows d, l .1))
+    ready : (s : State) → (step t (indexOf t) s ≡ stuck → ⊥) → Ready t (indexOf t) here-row p i ops s
+    unfolding instruction
+    ready s moves =
+        let z = takes-there t J f in
+        record {
+          procedure = rw (procedures-are t (J .accepted)) at (f .there);
+          place = place-is t (J .accepted) p (f .there) few i (f .inside);
+          inside = end-is t (J .accepted) p (f .there) few i (f .inside);
+          kind = kind-is t (J .accepted) p (f .there) few i (f .inside);
+          found = found;
+          standsIn = stands-in;
+          guests = guests-are t (J .accepted) p (f .there) few i (f .inside);
+          fit = z .0;
+          operands = z .1;
+          moves = moves;
+        }
 
-  later : (h′ : List Cell) (st′ : List Entry) (z : ℕ) → z ≤ length h′ → Rest t h′ st′ → (z ≤ length h′) × Owned [] h′ st′ × Nested h′ × ((id y : ℕ) → Exists h′ id y → Reached h′ st′ id)
-  later h′ st′ z l v = (l, v .owned, nested t J (v .T) h′ (v .types) (v .records) [] st′ (v .owned), reached t J (v .T) h′ (v .types) (v .records) st′ (v .owned))
+    -- the instruction works on a type of its own module
+    by : (op y : ℕ) → 9 ≤ op → op ≤ 14 → (rowAt (codeOf t (procedureIn (indexOf t) p)) i .a ≡ op) × (rowAt (codeOf t (procedureIn (indexOf t) p)) i .b ≡ y) × (declarerIn (indexOf t) y ≡ moduleIn (indexOf t) p) → By t here-row op y
+    by op y lo hi z =
+        let there : rowAt (codeOf t (procedureIn (indexOf t) p)) i .b < indexOf t .types = J .instruction p i (f .there) (f .inside) .type-named (omega (arith, z .0)) (omega (arith, z .0)) in
+        let named : y < indexOf t .types = rw (z .1) at there in
+        record {
+          opcode = ap (λ (r : Row). r .a) (sym found) ∙ z .0;
+          operand = ap (λ (r : Row). r .b) (sym found) ∙ z .1;
+          there = rw (types-are t (J .accepted)) at named;
+          own = sym (declarer-is t (J .accepted) y named) ∙ z .2 ∙ sym (owner-is t (J .accepted) p (f .there) few i (f .inside));
+        }
 
-  longer : (s : State) (h′ : List Cell) (st′ : List Entry) → DidAt t s h′ st′ → Rest t h′ st′ → (n′ : ℕ) → Later t (indexOf t) s (base h′ st′ n′)
-  longer (state [] h st n) h′ st′ d o n′ = absurd d
-  longer (state (frame id p i ops ls ∷ fs) h st n) h′ st′ d o n′ = later h′ st′ (length h) (grows d) o
+    -- what it did to records and store
+    proper : (n : ℕ) {fs : List Frame} {h h′ : List Cell} {st st′ : List Entry} → Kept t (frame id p i ops ls) → Sound t (frame id p i ops ls ∷ fs) h st → ((y a c : ℕ) → IsEntry st′ y a c → Exists h′ c y)
+        → DidAt t (state (frame id p i ops ls ∷ fs) h st n) h′ st′ → Proper t here-row ops h st h′ st′
+    proper n {h} {h′} {st} {st′} own s typed′ k =
+        let op : rowAt (codeOf t (procedureIn (indexOf t) p)) i .a ≡ rowAt t here-row .a = ap (λ (r : Row). r .a) found in
+        record {
+          changed = λ id y j x x′ g a b. ((λ d. let z = changed-ok k id y j x x′ a b d in (x′, (sym op ∙ z .0, z .1), d)), λ w d. w .2 (d ∙ written-ok k id y j x′ (w .0) (w .1 .1 .0) b (op ∙ w .1 .0) (w .1 .1 .1)));
+          written = λ id y j x x′ z a b w. written-ok k id y j x′ z (w .1 .0) b (op ∙ w .0) (w .1 .1);
+          own = λ id y j z g w. own (toField id y j) (operand (head-of (w .1 .1))) (id, y, j, refl, g) .1 id y j refl ∙ sym stands-in;
+          fields = λ id y vs vs′ a b. ⊎-elim (λ z. inl z) (λ z. inr (z .0, z .1, z .2, (sym op ∙ z .3, z .4))) (fields-ok k id y vs vs′ a b);
+          made = λ id y a n. by opPack y (omega arith) (omega arith) (made-ok k id y a n);
+          broken = λ id y a n. by opUnpack y (omega arith) (omega arith) (broken-ok k id y a n);
+          fresh = fresh-ok k;
+          grows = grows k;
+          published = λ id y e m n.
+              let z = by opMoveTo (m .0) (omega arith) (omega arith) (entered-ok k (m .0) (m .1) id (m .2) (λ q. n (m .0, m .1, q))) in
+              let u : m .0 ≡ y = cc (typed′ (m .0) (m .1) id (m .2) .1, e .1) in rw u at z;
+          withdrawn = λ id y e m n.
+              let z = by opMoveFrom (m .0) (omega arith) (omega arith) (left-ok k (m .0) (m .1) id (m .2) (λ q. n (m .0, m .1, q))) in
+              let u : m .0 ≡ y = cc (s .entered (m .0) (m .1) id (m .2) .1, e .1) in rw u at z;
+          entered = λ y a id m n. by opMoveTo y (omega arith) (omega arith) (entered-ok k y a id m n);
+          left = λ y a id m n. by opMoveFrom y (omega arith) (omega arith) (left-ok k y a id m n);
+        }
 
-  -- a call's end
-  EndOk : State → Outcome → Type 0
-  EndOk s (finished vs (state fs h st n)) = Rest t h st × Limited h st × Later t (indexOf t) s (base h st n) × All IsNumber vs × (length vs ≤ maxResults)
-  EndOk s (next s′) = ⊥
-  EndOk s (stopped k) = Unit {0}
-  EndOk s stuck = ⊥
+    -- what comes of it
+    outcome : {fs : List Frame} {h : List Cell} {st : List Entry} {n : ℕ} (o : Outcome) → Kept t (frame id p i ops ls) → Sound t (frame id p i ops ls ∷ fs) h st
+        → OutcomeOk t (DidAt t (state (frame id p i ops ls ∷ fs) h st n)) o → HandedAt t J (state (frame id p i ops ls ∷ fs) h st n) o → SafeOutcome t (indexOf t) here-row id p i ops ls fs h st n o
+    outcome {fs} {n} (next (state fs′ h′ st′ n′)) own s k (goes q) =
+        let v = k .0 in
+        goes-on (proper n {fs = fs} own s (entries-typed t J (v .T) h′ (v .types) (v .records) fs′ st′ (v .store) (v .owned)) (k .1)) (q .0) (q .1)
+    outcome (finished vs z) own s k (ends q) = rw (q .3) (returnsLast (q .0) (q .1) (q .2))
+    outcome (stopped j) own s k q = stops-there
+    outcome stuck own s k q = absurd k
 
-  -- a call's moments are safe, and so is its end
-  RunOk : ℕ → Run → Type 0
-  RunOk z (ran es s row o) = All (Safe t (indexOf t)) es × EndOk s o × Within z s
+  -- a moment is safe
+  handed-moment : (s : State) (row : ℕ) (o : Outcome) → MomentOk t J s row o → (o ≡ step t (indexOf t) s) → HandedAt t J s o
+  handed-moment s row o m e = rw e (handed-at t J s (m .holds) (m .within))
 
-  after-ok : (z : ℕ) (e : Event) (r : Run) → Safe t (indexOf t) e → RunOk z r → RunOk z (afterMoment e r)
-  unfolding RunOk
-  after-ok z e (ran es s row o) k r = (also k (r .0), r .1, r .2)
+  safe-outcome : {T W : List ℕ} {id p i : ℕ} {ops : List Value} {ls : List (Option Value)} {fs : List Frame} {h : List Cell} {st : List Entry} {n : ℕ} (f : FrameOk t (indexOf t) T W i [] id p ops ls) (row : ℕ) (o : Outcome)
+      → MomentOk t J (state (frame id p i ops ls ∷ fs) h st n) row o → Kept t (frame id p i ops ls) → Sound t (frame id p i ops ls ∷ fs) h st
+      → SafeOutcome t (indexOf t) (procedureIn (indexOf t) p .code + i) id p i ops ls fs h st n o
+  safe-outcome f row o m own s =
+      ⊎-elim (λ e. outcome f o own s (outcome-ok t J _ row o m) (handed-moment _ row o m e)) (λ e. rw e stops-there) (m .did)
 
-  onward-ok : (z : ℕ) (s : State) (o : Outcome) (rest : State → Run) → StateOk t s → OutcomeOk t (DidAt t s) o → Within z s
-      → ((s′ : State) → StateOk t s′ → Within z s′ → RunOk z (rest s′)) → RunOk z (onward t (indexOf t) s o rest)
-  unfolding RunOk EndOk
-  onward-ok z s (next (state fs′ h′ st′ n′)) rest v k l ih =
-      after-ok z (moment s (rowUp t (indexOf t) s) (next (state fs′ h′ st′ n′))) (rest (state fs′ h′ st′ n′)) (safe-moment s _ _ v (proper-outcome s _ v k)) (ih (state fs′ h′ st′ n′) (k .0) (did-limits z s h′ st′ (k .1) l))
-  onward-ok z s (finished vs (state fs′ h′ st′ n′)) rest v k l ih =
-      (also (safe-moment s _ _ v (proper-outcome s _ v k)) none-left, (k .0, did-limits z s h′ st′ (k .1) l .0, longer s h′ st′ (k .1) (k .0) n′, k .2, k .3), l)
-  onward-ok z s (stopped j) rest v k l ih = (also (safe-moment s _ _ v (proper-outcome s _ v k)) none-left, tt, l)
-  onward-ok z s stuck rest v k l ih = absurd k
+  safe-moment : (s : State) (row : ℕ) (o : Outcome) → MomentOk t J s row o → Safe t (indexOf t) (moment s row o)
+  safe-moment (state fs h st n) row o m = go fs (m .holds .frames) m
+    where
+      v : Inv t (indexOf t) fs h st n
+      v = m .holds
 
-  stopped-proper : (s : State) (k : ℕ) → StateOk t s → ProperOutcome t (indexOf t) s (stopped k)
-  stopped-proper s k v = proper-outcome s (stopped k) v tt
+      go : (gs : List Frame) → Stack t (indexOf t) (v .T) (v .W) gs → MomentOk t J (state gs h st n) row o → Safe t (indexOf t) (moment (state gs h st n) row o)
+      go gs (runs {id} {p} {i} {ops} {ls} {fs = below} f u) k =
+          let w = k .holds in
+          let here-sound = sound (w .T) h (w .types) (w .records) gs st (w .store) (w .owned) in
+          let own = stack-kept J (J .accepted) (w .frames) in
+          rw (k .at) (safe (record {
+            ready = ready f (state gs h st n) (runs-on t J (state gs h st n) w);
+            kept = own;
+            sound = here-sound;
+            types = types-hold t J (J .accepted) (w .T) (w .W) h (w .types) (w .records) n (w .serial) gs st (w .owned) (w .frames);
+            linked = links t J (J .accepted) (v .T) (v .W) u;
+            rising = k .within .1;
+          }) (safe-outcome f row o k (all-head own) here-sound))
 
-  go-ok : (z budget : ℕ) (s : State) → StateOk t s → Within z s → RunOk z (go t (indexOf t) budget s)
-  unfolding go RunOk EndOk
-  go-ok z zero s v l = (also (safe-moment s _ _ v (stopped-proper s 31 v)) none-left, tt, l)
-  go-ok z (suc budget) s v l = onward-ok z s (step t (indexOf t) s) (go t (indexOf t) budget) v (step-ok t J s v) l (go-ok z budget)
+  -- a call that is done leaves no frame, and records, store and count as they were at its last moment
+  abbrev emptied : State → State
+  emptied (state fs h st n) = state [] h st n
 
-  -- the state in which a call begins
-  pub begin-ok : (q budget : ℕ) (args : List ℕ) (h : List Cell) (st : List Entry) (n : ℕ) → Callable t (indexOf t) q budget args → Rest t h st → StateOk t (begin t (indexOf t) q args (base h st n))
-  begin-ok q budget args h st n c v =
-      let f = entered {T = v .T} {W = replicate n 0 ++ (q ∷ [])} J n q (c .there) (rw (length-replicate {A = ℕ} n 0) at (snoc-last (replicate n 0) q)) (map num args)
-      (λ cs l. numbers-fit (parameterKinds t (procedureIn (indexOf t) q)) args cs (c .takes) (c .count) l (c .words)) in
-      let same-length : length (map num args) ≡ length args = length-map args num in
-      record {
-        T = v .T;
-        W = replicate n 0 ++ (q ∷ []);
-        types = v .types;
-        serial = simp (length-append, length-replicate) (omega arith);
-        frames = runs (rw same-length at f) (bottom (c .gives) (J .procedure q (c .there) .results));
-        records = v .records;
-        store = v .store;
-        owned = λ r. omega (arith, v .owned r, held-start r (map num args) (localCount (procedureIn (indexOf t) q) - length args), numbers-free r args);
-      }
+  done-as : (s : State) (vs : List Value) (z : State) → HandedAt t J s (finished vs z) → z ≡ emptied s
+  done-as (state [] h st n) vs z q = absurd q
+  done-as (state (frame id p i ops ls ∷ fs) h st n) vs z (ends q) = q .3
 
-  -- what there is between calls
-  unfoldable pub BaseOk : Base → Type 0
-  BaseOk (base h st n) = Rest t h st × Limited h st
-
-  abbrev used : Base → ℕ
-  used (base h st n) = length h
-
-  -- a call's events are safe, and what there is after it is as it should be
-  abbrev CallOk : Base → Run → Type 0
-  CallOk b r = All (Safe t (indexOf t)) (eventsOf t (indexOf t) b r) × BaseOk (baseAfter t (indexOf t) b r)
-
-  settle : (b : Base) (r : Run) → BaseOk b → RunOk (used b) r → CallOk b r
-  unfolding BaseOk RunOk EndOk
-  settle (base h st n) (ran es (state fs h′ st′ n′) row (next s)) v r = absurd (r .1)
-  settle (base h st n) (ran es (state fs h′ st′ n′) row stuck) v r = absurd (r .1)
-  settle (base h st n) (ran es (state fs h′ st′ n′) row (finished vs (state gs h″ st″ n″))) v r =
-      (all-append (r .0) (also (ends (refl, r .1 .3, r .1 .4) (r .1 .2)) none-left), (r .1 .0, r .1 .1))
-  settle (base h st n) (ran es (state fs h′ st′ n′) row (stopped k)) v r =
-      let l = drop (length h) h′ in
-      let rest = restored-rest t h h′ st (v .0) in (
-        all-append (r .0) (also (ends (refl, (λ id c e. nth-app h (map bury l) id c e), buried-dead h l) (later (restored h h′) st (length h′) (restored-length h h′ (r .2 .1)) rest)) none-left),
-        (rest, record { few = omega (arith, buried-count h l, v .1 .few); entries = v .1 .entries; keys = v .1 .keys }),
-      )
-
-  pub call-run : (q budget : ℕ) (args : List ℕ) (b : Base) → Callable t (indexOf t) q budget args → BaseOk b → CallOk b (go t (indexOf t) budget (begin t (indexOf t) q args b))
+  -- an end is safe
+  end-go : (before : Base) (s : State) (row : ℕ) (o : Outcome) → BaseOk t J before → used before ≤ usedAt s → ((s′ : State) → o ≡ next s′ → ⊥) → OutcomeOk t (DidAt t s) o
+      → ((vs : List Value) (z : State) → o ≡ finished vs z → z ≡ emptied s) → Safe t (indexOf t) (ended before s row o (afterwards before s o))
   unfolding BaseOk
-  call-run q budget args (base h st n) c v =
-      settle (base h st n) _ v (go-ok (length h) budget (begin t (indexOf t) q args (base h st n)) (begin-ok q budget args h st n c (v .0)) (v .1, omega arith))
+  end-go before s row (next z) v l f k d = absurd (f z refl)
+  end-go (base h₀ st₀ n₀) (state fs h st n) row (finished vs z) v l f k d =
+      let e : z ≡ state [] h st n = d vs z refl in
+      let u : Rest t h st × DidAt t (state fs h st n) h st × All IsNumber vs × (length vs ≤ maxResults) = rw e at k in
+      let after : Later t (indexOf t) (state fs h st n) (base h st n) = (omega arith, omega arith, between h st (u .0)) in
+      rw e (ends-there {s = state fs h st n} (finishes (u .2) (u .3)) after)
+  end-go (base h₀ st₀ n₀) (state fs h st n) row (stopped j) v l f k d =
+      let back : Restored t (indexOf t) (base h₀ st₀ n₀) (base (restored h₀ h) st₀ n) = (refl, (λ id c e. nth-app h₀ (map bury (drop (length h₀) h)) id c e), buried-dead h₀ (drop (length h₀) h)) in
+      let after : Later t (indexOf t) (state fs h st n) (base (restored h₀ h) st₀ n) = (restored-length h₀ h l, omega arith, between (restored h₀ h) st₀ (restored-ok t J h₀ h st₀ (v .0) (v .1) .0)) in
+      ends-there (restores back) after
+  end-go before s row stuck v l f k d = absurd k
 
-  history-ok : (cs : List Call) (b : Base) → All (GoodCall t (indexOf t)) cs → BaseOk b → All (Safe t (indexOf t)) (history t (indexOf t) cs b)
-  unfolding history
-  history-ok [] b c v = none-left
-  history-ok (call q budget args ∷ cs) b (also c a) v =
-      let r = call-run q budget args b c v in
-      all-append (r .0) (history-ok cs (baseAfter t (indexOf t) b (go t (indexOf t) budget (begin t (indexOf t) q args b))) a (r .1))
+  safe-ended : (before : Base) (s : State) (row : ℕ) (o : Outcome) (after : Base) → EndOk t J before s row o after → Safe t (indexOf t) (ended before s row o after)
+  safe-ended before s row o after m = rw (m .leaves) (end-go before s row o (m .began) (m .longer) (m .over) (outcome-ok t J s row o (m .last)) (λ vs z e. done-as s vs z (done-at vs z e)))
+    where
+      done-at : (vs : List Value) (z : State) → o ≡ finished vs z → HandedAt t J s (finished vs z)
+      done-at vs z e = rw e at (⊎-elim (λ q. handed-moment s row o (m .last) q) (λ q. absurd (clash (cc (q, e)))) (m .last .did))
 
-  pub nothing-ok : BaseOk nothing
-  unfolding BaseOk
-  nothing-ok = (record { T = []; types = refl; records = none-left; store = none-left; owned = λ r. refl }, record { few = omega arith; entries = omega arith; keys = λ y a. omega arith })
+  safe-event : (e : Event) → EventOk t J e → Safe t (indexOf t) e
+  safe-event (moment s row o) m = safe-moment s row o m
+  safe-event (ended before s row o after) m = safe-ended before s row o after m
 
--- the one claim
-pub demand3 : (t l : List ℕ) (n k : ℕ) → Bytes t → Bytes l → judgeOf t ≡ Accepted n → listOf t (indexOf t) l ≡ Accepted k → All (Safe t (indexOf t)) (historyOf t l)
-unfolding historyOf
-demand3 t l n k bt bl e d =
+-- Demand 3 for every list of good calls over an accepted table: whatever events are chained are safe, and there are such
+pub demand3-calls : (t : List ℕ) (n : ℕ) → Bytes t → judgeOf t ≡ Accepted n → (cs : List Call) → All (GoodCall t (indexOf t)) cs → (es : List Event) → Chained t (indexOf t) cs nothing es → Claimed t (indexOf t) cs es
+demand3-calls t n bt e cs good es c =
     let J = judged t n bt e in
-    history-ok t J (callsOf l) nothing (good-calls t (indexOf t) l k bl d) (nothing-ok t J)
+    record { chained = c; safe = all-map (safe-event t J) (chain-ok t J c good (nothing-ok t J)) }
+
+-- and for the bytes of a list
+pub demand3 : (t l : List ℕ) (n k : ℕ) → Bytes t → Bytes l → judgeOf t ≡ Accepted n → listOf t (indexOf t) l ≡ Accepted k → Claimed t (indexOf t) (callsOf l) (historyOf t l)
+unfolding historyOf
+demand3 t l n k bt bl e d = demand3-calls t n bt e (callsOf l) (good-calls t (indexOf t) l k bl d) (historyOf t l) (chained t (indexOf t) (callsOf l) nothing)

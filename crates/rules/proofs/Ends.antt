@@ -15,7 +15,7 @@ use Rattle.rules.specs.Calls.{Call, call, callRow, arguments, callsFrom,
 use Rattle.rules.specs.History.{Base, Event, moment, ended, afterwards, Run, ran, afterMoment, rowUp, onward, go, begin, eventsOf, baseAfter, history, lastBase}
 use Rattle.rules.specs.Callable.{GoodCall}
 use Rattle.rules.specs.Claim.{All, also}
-use Rattle.rules.proofs.Demand3.{BaseOk, call-run}
+use Rattle.rules.proofs.Invariant.{BaseOk, call-run}
 
 -- how many calls end
 abbrev pub ends : List Event → ℕ
@@ -91,7 +91,7 @@ history-last t J (call q budget args ∷ cs) b (also c a) v =
     let b′ = baseAfter t (indexOf t) b r in
     let e : lastBase (eventsOf t (indexOf t) b r ++ history t (indexOf t) cs b′) b ≡ lastBase (history t (indexOf t) cs b′) b′
     = last-append (eventsOf t (indexOf t) b r) (history t (indexOf t) cs b′) b ∙ ap (lastBase (history t (indexOf t) cs b′)) (last-end t (indexOf t) b r (go-quiet t (indexOf t) budget (begin t (indexOf t) q args b))) in
-    rw e (history-last t J cs b′ a (call-run t J q budget args b c v .1))
+    rw e (history-last t J cs b′ a (call-run t J q budget args b c v))
 
 -- a row begins at most one call
 calls-few : (l : List ℕ) (i left : ℕ) → length (callsFrom l i left) ≤ left

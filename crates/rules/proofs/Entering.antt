@@ -20,7 +20,7 @@ use Rattle.locals.specs.Locals.{parameterCount}
 use Rattle.judged.specs.Judged.{localKinds, Procedure, Judged}
 use Rattle.rules.specs.Machine.{Value}
 use Rattle.rules.specs.Step.{startLocals}
-use Rattle.rules.specs.Words.{moduleOf}
+use Rattle.rules.proofs.Indexed.{moduleIn}
 use Rattle.rules.proofs.Typing.{Has, hnil, hcons, Slots}
 use Rattle.rules.proofs.Places.{enter}
 use Rattle.rules.proofs.Frames.{FrameOk}
@@ -65,7 +65,7 @@ entry-is ks rest n m e d =
 
 -- frame id of procedure q, with the arguments vs
 pub entered : {t : List ℕ} {T W : List ℕ} (judged : Judged t (indexOf t)) (id q : ℕ) → q < indexOf t .procedures → nth W id ≡ some q → (vs : List Value)
-    → ((cs : List Bool) → length cs ≡ length (parameterKinds t (procedureIn (indexOf t) q)) → Has t (indexOf t) T W (moduleOf (indexOf t) q) vs (parameterKinds t (procedureIn (indexOf t) q)) cs)
+    → ((cs : List Bool) → length cs ≡ length (parameterKinds t (procedureIn (indexOf t) q)) → Has t (indexOf t) T W (moduleIn (indexOf t) q) vs (parameterKinds t (procedureIn (indexOf t) q)) cs)
     → FrameOk t (indexOf t) T W 0 [] id q [] (startLocals vs (localCount (procedureIn (indexOf t) q) - length vs))
 unfolding onto kindsBefore marksOn
 entered {t} {T} {W} judged id q there e vs f =

@@ -22,7 +22,7 @@ use Rattle.judged.specs.Judged.{localKinds}
 use Rattle.rules.specs.Machine.{Value, num, obj, toLocal, toField, toRecord, Cell, gone, here, Entry, entry, Frame, frame, content, localOf, putLocal, findKey, dropKey, Target, aNumber, aRecord, stale, wrong, inCell, inLocal, numberIn, inField, target}
 use Rattle.rules.specs.Calls.{allNumbers}
 use Rattle.rules.specs.Ownership.{inFrames, inRecords, inStore, livesAt}
-use Rattle.rules.specs.Words.{moduleOf}
+use Rattle.rules.proofs.Indexed.{moduleIn}
 use Rattle.rules.specs.Claim.{All, none-left, also, Owned}
 use Rattle.rules.proofs.Changes.{clash}
 use Rattle.rules.proofs.Sorts.{to-reference, record-plain, reference-is}
@@ -42,8 +42,8 @@ pub record FrameOk (t : List ℕ) (ix : Index) (T W : List ℕ) (to : ℕ) (gap 
   pub len : ℕ
   pub gaps : length G ≡ length gap
   pub kinds : kindsBefore t ix (procedureIn ix p) to ≡ good (onto gap rest)
-  pub has : Has t ix T W (moduleOf ix p) ops rest O
-  pub slots : Slots t ix T W (moduleOf ix p) ls (localKinds t (procedureIn ix p)) L
+  pub has : Has t ix T W (moduleIn ix p) ops rest O
+  pub slots : Slots t ix T W (moduleIn ix p) ls (localKinds t (procedureIn ix p)) L
   pub walk : WalkOf t (procedureIn ix p) len to L (marksOn G O)
 
 -- the frames under one of procedure q: each stands at the Call of the one above

@@ -1,4 +1,4 @@
--- What the frames of a state hold: a reference to a guarded field stands in a frame of the declaring module, and in none of a guest.
+-- What the frames of a state hold: a reference to a guarded field stands in a frame of the declaring module, and in none of a guestIn.
 use Prim.Native.Nat.{ℕ, zero, suc, _+_, _<_, _≤_}
 use mathlib.Core.Path.{_≡_, refl, ap, sym, _∙_}
 use mathlib.Core.List.{List, [], _∷_, List·Memᴰ·cases-cons, List·Memᴰ·not-nil}
@@ -13,9 +13,12 @@ use Rattle.program.specs.Program.{procedureIn}
 use Rattle.reach.specs.Reach.{Mem}
 use Rattle.flow.specs.Walks.{Slot, empty, full, markOf, pushedOn as marksOn}
 use Rattle.leaks.specs.Leaks.{inTrusted}
+use Rattle.judging.specs.Judging.{AcceptedTable}
 use Rattle.judged.specs.Judged.{Judged}
 use Rattle.rules.specs.Machine.{Value, num, obj, toLocal, toField, toRecord, Frame, frame}
-use Rattle.rules.specs.Words.{moduleOf, declarer, guest, guardedField, GuardedReference, Holds, operand, local}
+use Rattle.rules.specs.Words.{moduleOf, declarer, guest, GuardedReference, Holds, operand, local}
+use Rattle.rules.proofs.Indexed.{moduleIn, declarerIn, guestIn, guardedIn}
+use Rattle.rules.proofs.Worded.{guarded-is, declarer-is, module-is, guest-is}
 use Rattle.rules.specs.Claim.{All, none-left, also, Kept}
 use Rattle.rules.proofs.Changes.{clash}
 use Rattle.rules.proofs.Typing.{Fit, fnum, fobj, floc, ffld, frec, Has, hnil, hcons, Slots, snil, sempty, sfull}
@@ -29,27 +32,27 @@ under-marks (g ∷ G) O j = ap (λ (k : ℕ). getD (marksOn G (g ∷ O)) k false
 
 module _ {t : List ℕ} {ix : Index} {T W : List ℕ} {m : ℕ} where
   -- a value that is held has a place with a mark
-  has-place : {v : Value} {vs : List Value} {ks : List ℕ} {bs : List Bool} → Has t ix T W m vs ks bs → Mem v vs → (k j : ℕ) × Fit t ix T W m v k (getD bs j false)
+  pub has-place : {v : Value} {vs : List Value} {ks : List ℕ} {bs : List Bool} → Has t ix T W m vs ks bs → Mem v vs → (k j : ℕ) × Fit t ix T W m v k (getD bs j false)
   has-place hnil q = absurd (List·Memᴰ·not-nil q)
   has-place {v} (hcons {v = w} {k} {b} f h) q =
       ⊎-elim (λ e. let z : w ≡ v = sym e in (k, 0, rw z at f)) (λ r. let z = has-place h r in (z .0, suc (z .1), z .2)) (List·Memᴰ·cases-cons q)
 
-  slot-place : {v : Value} {ls : List (Option Value)} {ks : List ℕ} {L : List Slot} → Slots t ix T W m ls ks L → (l : ℕ) → nth ls l ≡ some (some v) → (k : ℕ) × Fit t ix T W m v k (markOf (getD L l empty))
+  pub slot-place : {v : Value} {ls : List (Option Value)} {ks : List ℕ} {L : List Slot} → Slots t ix T W m ls ks L → (l : ℕ) → nth ls l ≡ some (some v) → (k : ℕ) × (nth ks l ≡ some k) × Fit t ix T W m v k (markOf (getD L l empty))
   slot-place snil l e = absurd (clash (cc))
   slot-place (sempty s) zero e = absurd (clash (cc))
   slot-place (sempty s) (suc l) e = slot-place s l e
-  slot-place {v} (sfull {v = w} {k} f s) zero e = let z : w ≡ v = cc in (k, rw z at f)
+  slot-place {v} (sfull {v = w} {k} f s) zero e = let z : w ≡ v = cc in (k, refl, rw z at f)
   slot-place (sfull f s) (suc l) e = slot-place s l e
 
   -- a reference to a guarded field stands at a marked place, in the declaring module
-  guarded-fit : {v : Value} {k : ℕ} {b : Bool} (id y j : ℕ) → Fit t ix T W m v k b → v ≡ toField id y j → guardedField t ix y j ≡ true → (b ≡ true) × (declarer ix y ≡ m)
+  guarded-fit : {v : Value} {k : ℕ} {b : Bool} (id y j : ℕ) → Fit t ix T W m v k b → v ≡ toField id y j → guardedIn t ix y j ≡ true → (b ≡ true) × (declarerIn ix y ≡ m)
   guarded-fit id y j (fnum w q) e g = absurd (clash (cc))
   guarded-fit id y j (fobj a q) e g = absurd (clash (cc))
   guarded-fit id y j (floc a d c q) e g = absurd (clash (cc))
   guarded-fit id y j (ffld {y = z} {j = i} a d c q) e g = let x : z ≡ y = cc in let w : i ≡ j = cc in rw (x, w) at c g
   guarded-fit id y j (frec a q) e g = absurd (clash (cc))
 
-module _ {t : List ℕ} {T W : List ℕ} (judged : Judged t (indexOf t)) where
+module _ {t : List ℕ} {T W : List ℕ} (judged : Judged t (indexOf t)) (accepted : AcceptedTable t) where
   module _ {to : ℕ} {gap : List ℕ} {id p : ℕ} {ops : List Value} {ls : List (Option Value)} (f : FrameOk t (indexOf t) T W to gap id p ops ls) where
     -- in a guest no place is marked
     clean-guest : inTrusted t (indexOf t) (procedureIn (indexOf t) p) ≡ false → ((l : ℕ) → markOf (getD (f .L) l empty) ≡ false) × ((j : ℕ) → getD (f .O) j false ≡ false)
@@ -58,32 +61,30 @@ module _ {t : List ℕ} {T W : List ℕ} (judged : Judged t (indexOf t)) where
         (c .0, λ j. sym (under-marks (f .G) (f .O) j) ∙ c .1 (length (f .G) + j))
 
     -- at a marked place the module is trusted
-    trusted : (b : Bool) → b ≡ true → (inTrusted t (indexOf t) (procedureIn (indexOf t) p) ≡ false → b ≡ false) → guest t (indexOf t) p ≡ false
+    trusted : (b : Bool) → b ≡ true → (inTrusted t (indexOf t) (procedureIn (indexOf t) p) ≡ false → b ≡ false) → guestIn t (indexOf t) p ≡ false
     trusted b e c = go (inTrusted t (indexOf t) (procedureIn (indexOf t) p)) refl
       where
         go : (x : Bool) → inTrusted t (indexOf t) (procedureIn (indexOf t) p) ≡ x → not x ≡ false
         go true q = refl
         go false q = absurd (true≢false (sym e ∙ c q))
 
-    fits-kept : {v : Value} {k : ℕ} (b : Bool) → Fit t (indexOf t) T W (moduleOf (indexOf t) p) v k b → (inTrusted t (indexOf t) (procedureIn (indexOf t) p) ≡ false → b ≡ false) → GuardedReference t (indexOf t) v
-        → (guest t (indexOf t) p ≡ false) × ((id′ y j : ℕ) → v ≡ toField id′ y j → declarer (indexOf t) y ≡ moduleOf (indexOf t) p)
+    fits-kept : {v : Value} {k : ℕ} (b : Bool) → Fit t (indexOf t) T W (moduleIn (indexOf t) p) v k b → (inTrusted t (indexOf t) (procedureIn (indexOf t) p) ≡ false → b ≡ false) → GuardedReference t v
+        → (guest t p ≡ false) × ((id′ y j : ℕ) → v ≡ toField id′ y j → declarer t y ≡ moduleOf t p)
     fits-kept b x c g =
-        let z = guarded-fit (g .0) (g .1) (g .2) x (g .3) (g .4) in
-        (trusted b (z .0) c, λ id′ y j e. let w : g .1 ≡ y = cc (g .3, e) in rw w at (z .1))
+        let few = judged .procedure p (f .there) .low in
+        let w = guarded-is t accepted (g .1) (g .2) (g .4) in
+        let z = guarded-fit (g .0) (g .1) (g .2) x (g .3) (w .1) in
+        let own : declarer t (g .1) ≡ moduleOf t p = sym (declarer-is t accepted (g .1) (w .0)) ∙ z .1 ∙ module-is t accepted p (f .there) few in
+        (sym (guest-is t accepted p (f .there) few) ∙ trusted b (z .0) c, λ id′ y j e. let u : g .1 ≡ y = cc (g .3, e) in rw u at own)
 
-    frame-kept : (i : ℕ) → Kept t (indexOf t) (frame id p i ops ls)
+    frame-kept : (i : ℕ) → Kept t (frame id p i ops ls)
     frame-kept i v (operand q) g = let z = has-place (f .has) q in fits-kept (getD (f .O) (z .1) false) (z .2) (λ e. clean-guest e .1 (z .1)) g
-    frame-kept i v (local l e) g = let z = slot-place (f .slots) l e in fits-kept (markOf (getD (f .L) l empty)) (z .1) (λ q. clean-guest q .0 l) g
+    frame-kept i v (local l e) g = let z = slot-place (f .slots) l e in fits-kept (markOf (getD (f .L) l empty)) (z .2) (λ q. clean-guest q .0 l) g
 
-  suspended-kept : {q : ℕ} {fs : List Frame} → Suspended t (indexOf t) T W q fs → All (Kept t (indexOf t)) fs
+  suspended-kept : {q : ℕ} {fs : List Frame} → Suspended t (indexOf t) T W q fs → All (Kept t) fs
   suspended-kept (bottom z x) = none-left
   suspended-kept (over {id} {p} {i} {ops} {ls} e d f s) = also {x = frame id p i ops ls} (frame-kept f i) (suspended-kept s)
 
   -- every frame, running or suspended
-  pub stack-kept : {fs : List Frame} → Stack t (indexOf t) T W fs → All (Kept t (indexOf t)) fs
+  pub stack-kept : {fs : List Frame} → Stack t (indexOf t) T W fs → All (Kept t) fs
   stack-kept (runs {id} {p} {i} {ops} {ls} f s) = also {x = frame id p i ops ls} (frame-kept f i) (suspended-kept s)
-
-  -- so the running frame's operands are its own module's
-  pub operands-own : {id p i : ℕ} {ops : List Value} {ls : List (Option Value)} {fs : List Frame} → Stack t (indexOf t) T W (frame id p i ops ls ∷ fs)
-      → (id′ y j : ℕ) → guardedField t (indexOf t) y j ≡ true → Mem (toField id′ y j) ops → declarer (indexOf t) y ≡ moduleOf (indexOf t) p
-  operands-own (runs f s) id′ y j g q = frame-kept f 0 (toField id′ y j) (operand q) (id′, y, j, refl, g) .1 id′ y j refl

@@ -19,7 +19,7 @@ use Rattle.flow.specs.Walks.{Slot, empty, full, markOf, topMark, localsAfter, p
 use Rattle.steps.specs.Steps.{nothingGiven, borrowsGuarded, freshMarks, stepOf, stepAt}
 use Rattle.walks.proofs.Regular.{regular, step-gives}
 use Rattle.walks.proofs.Depth.{length-pushes}
-use Rattle.rules.specs.Words.{guardedField}
+use Rattle.rules.proofs.Indexed.{guardedIn}
 
 module _ (t : List ℕ) (ix : Index) (own : ProcedureEntry) (i : ℕ) where
   -- the effect, by opcode
@@ -60,8 +60,8 @@ module _ (t : List ℕ) (ix : Index) (own : ProcedureEntry) (i : ℕ) where
 
     -- BorrowFld pushes a mark where the field is guarded
     pub pushes-field : rowAt (codeOf t own) i .a ≡ opBorrowFld
-        → pushes (stepAt t ix nothingGiven own i) L ≡ guardedField t ix (rowAt (codeOf t own) i .b / 8) (rowAt (codeOf t own) i .b % 8) ∷ []
-    unfolding stepAt stepOf pushes effectOf effects freshMarks tabulate borrowsGuarded namedType guardedField
+        → pushes (stepAt t ix nothingGiven own i) L ≡ guardedIn t ix (rowAt (codeOf t own) i .b / 8) (rowAt (codeOf t own) i .b % 8) ∷ []
+    unfolding stepAt stepOf pushes effectOf effects freshMarks tabulate borrowsGuarded namedType guardedIn
     pushes-field e = rw e refl
 
     -- as many marks are pushed as values

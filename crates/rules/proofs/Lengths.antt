@@ -18,13 +18,14 @@ use Rattle.rules.specs.Ascii.{ascii}
 use Rattle.rules.specs.Text.{decimal, values, fieldsText, entryLine, entryLines, ending, callLine, callLines, storeLines, textOf}
 use Rattle.rules.specs.Run.{historyOf}
 use Rattle.rules.specs.Ownership.{inValues, inRecords, inStore, livesAt}
-use Rattle.rules.specs.Claim.{All, none-left, also, EndOf, Safe, ends as at-end, IsNumber}
+use Rattle.rules.specs.Claim.{All, none-left, also, SafeEnd, finishes, restores, Safe, ends as at-end, IsNumber}
 use Rattle.rules.specs.Lengths.{Rearranged, none-at-all, same-first, first-swapped, one-after-another}
 use Rattle.rules.proofs.Typing.{Fields, dnil, dnum, dobj}
 use Rattle.rules.proofs.Running.{Rest}
 use Rattle.rules.proofs.Callable.{list-rows, good-calls}
 use Rattle.rules.proofs.Owning.{cell-here}
-use Rattle.rules.proofs.Demand3.{BaseOk, nothing-ok, demand3}
+use Rattle.rules.proofs.Invariant.{BaseOk, nothing-ok}
+use Rattle.rules.proofs.Demand3.{demand3}
 use Rattle.rules.proofs.Printed.{decimal-few, number-text, record-text, text-bound}
 use Rattle.rules.proofs.Ends.{ends, history-ends, history-last, calls-in-rows}
 
@@ -34,12 +35,10 @@ results-text [] none-left = omega arith
 results-text (v ∷ vs) (also k a) = rw (k .1) (omega (arith, number-text (λ (id : ℕ). []) (k .0) vs, results-text vs a))
 
 -- how a call ended: at most 94 bytes
-ending-text : (t : List ℕ) (before : Base) (s : State) (row : ℕ) (o : Outcome) (after : Base) → EndOf t (indexOf t) before s o after → length (ending row o) ≤ 94
+ending-text : (t : List ℕ) (before : Base) (row : ℕ) (o : Outcome) (after : Base) → SafeEnd t (indexOf t) before o after → length (ending row o) ≤ 94
 unfolding ascii
-ending-text t before s row (finished vs (state fs rs st n)) after e = simp length-append (omega (arith, results-text vs (e .1), e .2))
-ending-text t before s row (next s′) after e = absurd e
-ending-text t before s row (stopped k) after e = simp length-append (omega (arith, decimal-few k, decimal-few row))
-ending-text t before s row stuck after e = absurd e
+ending-text t before row o after (finishes {vs} a l) = simp length-append (omega (arith, results-text vs a, l))
+ending-text t before row o after (restores {k} r) = simp length-append (omega (arith, decimal-few k, decimal-few row))
 
 -- a call's line
 line-text : (i row : ℕ) (o : Outcome) → length (ending row o) ≤ 94 → length (callLine i row o) ≤ 120
@@ -52,7 +51,7 @@ unfolding callLines
 lines-text t i [] a = omega arith
 lines-text t i (moment s r o ∷ es) (also k a) = lines-text t i es a
 lines-text t i (ended before s r o after ∷ es) (also (at-end e l) a) =
-    omega (arith, length-append (callLine i r o) (callLines (i + 1) es), line-text i r o (ending-text t before s r o after e), lines-text t (i + 1) es a)
+    omega (arith, length-append (callLine i r o) (callLines (i + 1) es), line-text i r o (ending-text t before r o after e), lines-text t (i + 1) es a)
 
 -- The store's lines. An entry holds its record as a value does
 abbrev roots : List Entry → List Value
@@ -127,7 +126,7 @@ text-fits order free t l n k bt bl e d =
     omega (
       arith,
       length-append (callLines 0 es) (storeLines order (lastBase es nothing)),
-      lines-text t 0 es (demand3 t l n k bt bl e d),
+      lines-text t 0 es (demand3 t l n k bt bl e d .safe),
       history-ends t (indexOf t) (callsOf l) nothing,
       calls-in-rows l,
       list-rows t (indexOf t) l k d,

@@ -1,3 +1,6 @@
+pub mod Indexed
+pub mod Worded
+pub mod Every
 pub mod Counts
 pub mod Changes
 pub mod Sounds
@@ -13,6 +16,11 @@ pub mod Steps
 pub mod Callable
 pub mod Guests
 pub mod Owning
+pub mod Placed
+pub mod Labels
+pub mod Outcomes
+pub mod Handing
+pub mod Invariant
 pub mod Demand3
 pub mod Printed
 pub mod Ends

@@ -8,17 +8,17 @@ use native.Mathlib.Omega.{arith}
 use native.Mathlib.Decide.{decLt}
 use lib.ListN.{length, getElem? as nth}
 use Rattle.table.specs.Index.{indexOf}
-use Rattle.program.specs.Program.{recordOf, typeIn, fieldKinds}
+use Rattle.program.specs.Program.{number, recordOf, typeIn, fieldKinds}
 use Rattle.reach.specs.Reach.{Mem}
 use Rattle.judged.specs.Judged.{Judged}
-use Rattle.rules.specs.Machine.{Value, num, obj, toLocal, toField, toRecord, Cell, gone, here, Entry, entry, Frame}
+use Rattle.rules.specs.Machine.{Value, valueKind, num, obj, toLocal, toField, toRecord, Cell, gone, here, Entry, entry, Frame}
 use Rattle.rules.specs.Ownership.{same, inValue, inValues, inFrames, inFields, inRecords, inStore, livesAt}
-use Rattle.rules.specs.Words.{Exists, IsEntry}
-use Rattle.rules.specs.Claim.{All, none-left, also, Owned, Nested, Reached, published-there, nested-there}
+use Rattle.rules.specs.Words.{Exists, IsEntry, NumberIn}
+use Rattle.rules.specs.Claim.{All, none-left, also, Plain, Owned, Nested, Reached, published-there, nested-there}
 use Rattle.rules.proofs.Counts.{same-one, alive-gone}
 use Rattle.rules.proofs.Changes.{clash}
-use Rattle.rules.proofs.Typing.{Fields, dnil, dnum, dobj, CellOk}
-use Rattle.rules.proofs.Frames.{typeOf, cell-at}
+use Rattle.rules.proofs.Typing.{Fields, dnil, dnum, dobj, CellOk, EntryOk}
+use Rattle.rules.proofs.Frames.{typeOf, cell-at, field-num}
 use Rattle.rules.proofs.Running.{Rest}
 
 -- a record in a field, by its place
@@ -29,7 +29,7 @@ field-place id y (dobj {id = a} {y = z} {k} w q f) m =
     ⊎-elim (λ e. let x : id ≡ a = cc in let u : y ≡ z = cc in (0, ap {B = Option ℕ} some (q ∙ ap recordOf (sym u)), rw (x, u) w)) (λ r. let z = field-place id y f r in (suc (z .0), z .1, z .2)) (List·Memᴰ·cases-cons m)
 
 -- what a list of values holds is counted
-held-once : (id y : ℕ) (vs : List Value) → Mem (obj id y) vs → 1 ≤ inValues id vs
+pub held-once : (id y : ℕ) (vs : List Value) → Mem (obj id y) vs → 1 ≤ inValues id vs
 held-once id y [] m = absurd (List·Memᴰ·not-nil m)
 held-once id y (v ∷ vs) m = ⊎-elim (λ e. omega (arith, same-one id, ap (inValue id) (sym e))) (λ r. omega (arith, held-once id y vs r)) (List·Memᴰ·cases-cons m)
 
@@ -81,6 +81,28 @@ entry-there r (entry y a id ∷ st) l = go (decLt 0 (same r id)) (entry-there r 
     go (yes q) ih = (y, a, List·Memᴰ·head (ap (λ (x : ℕ). entry y a x) (same-is r id (omega arith))))
     go (no q) ih = let z = ih (omega arith) in (z .0, z .1, List·Memᴰ·tail (z .2))
 
+fields-kinds : {T : List ℕ} {vs : List Value} {ks : List ℕ} → Fields T vs ks → map valueKind vs ≡ ks
+fields-kinds dnil = refl
+fields-kinds (dnum w q f) = cc (q, fields-kinds f)
+fields-kinds (dobj a q f) = cc (q, fields-kinds f)
+
+fields-plain : {T : List ℕ} {vs : List Value} {ks : List ℕ} → Fields T vs ks → All Plain vs
+fields-plain dnil = none-left
+fields-plain (dnum w q f) = also w (fields-plain f)
+fields-plain (dobj {id} {y} a q f) = also {x = obj id y} tt (fields-plain f)
+
+-- an entry by its place
+entry-typed : (T : List ℕ) (st : List Entry) (y a id : ℕ) → All (EntryOk T) st → IsEntry st y a id → nth T id ≡ some y
+entry-typed T [] y a id q m = absurd (List·Memᴰ·not-nil m)
+entry-typed T (entry z b c ∷ st) y a id (also k q) m =
+    ⊎-elim (λ e. let u : y ≡ z = cc in let w : id ≡ c = cc in rw (u, w) (k .0)) (λ r. entry-typed T st y a id q r) (List·Memᴰ·cases-cons m)
+
+-- and it is counted
+entry-counted : (st : List Entry) (y a id : ℕ) → IsEntry st y a id → 1 ≤ inStore id st
+entry-counted [] y a id m = absurd (List·Memᴰ·not-nil m)
+entry-counted (entry z b c ∷ st) y a id m =
+    ⊎-elim (λ e. let w : id ≡ c = cc in rw (← w) (omega (arith, same-one id))) (λ r. omega (arith, entry-counted st y a id r)) (List·Memᴰ·cases-cons m)
+
 lives-once : (h : List Cell) (id y : ℕ) (vs : List Value) → nth h id ≡ some (here y vs) → livesAt h id ≡ 1
 lives-once [] id y vs e = absurd (clash (cc))
 lives-once (c ∷ h) zero y vs e = let z : c ≡ here y vs = cc in rw z refl
@@ -98,6 +120,22 @@ module _ (t : List ℕ) (J : Judged t (indexOf t)) (T : List ℕ) (h : List Cell
             (λ g. (g .0, g .1))
             (cell-at t (indexOf t) T h id′ y′ (rw types (f .2)) records),
       )
+
+  -- no field holds a reference
+  pub plain : (id y : ℕ) (vs : List Value) → nth h id ≡ some (here y vs) → All Plain vs
+  plain id y vs e = fields-plain (cell-here t T h id y vs records e .1)
+
+  -- it has the kinds of its type's fields
+  pub shaped : (id y : ℕ) (vs : List Value) → nth h id ≡ some (here y vs) → (y < indexOf t .types) × (map valueKind vs ≡ fieldKinds t (typeIn (indexOf t) y))
+  shaped id y vs e = let c = cell-here t T h id y vs records e in (c .0, fields-kinds (c .1))
+
+  -- the record of an entry exists, with the key's type
+  pub entries-typed : (fs : List Frame) (st : List Entry) → All (EntryOk T) st → Owned fs h st → (y a id : ℕ) → IsEntry st y a id → Exists h id y
+  entries-typed fs st q o y a id m =
+      ⊎-elim
+      (λ g. absurd (omega (arith, o id, entry-counted st y a id m, alive-gone id h y g)))
+      (λ g. (g .0, g .1))
+      (cell-at t (indexOf t) T h id y (rw types (entry-typed T st y a id q m)) records)
 
   -- with no frame, every record that exists is reached from the store
   reach : (st : List Entry) → Owned [] h st → (k id y : ℕ) (vs : List Value) → nth h id ≡ some (here y vs) → indexOf t .types ≤ y + k → Reached h st id

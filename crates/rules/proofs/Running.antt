@@ -24,7 +24,7 @@ use Rattle.judged.specs.Judged.{localKinds, Instruction, Judged}
 use Rattle.rules.specs.Machine.{Value, num, obj, toLocal, toField, toRecord, Cell, Entry, Frame, frame, State, state, Outcome, next, finished, stopped, stuck, target}
 use Rattle.rules.specs.Step.{pushedOn}
 use Rattle.rules.specs.Ownership.{inValues, inLocals, inFrames, inRecords, inStore, livesAt}
-use Rattle.rules.specs.Words.{moduleOf, declarer}
+use Rattle.rules.proofs.Indexed.{moduleIn, declarerIn}
 use Rattle.rules.specs.Claim.{All, Owned, IsNumber}
 use Rattle.rules.proofs.Changes.{Change, same}
 use Rattle.rules.proofs.Typing.{Fit, Has, hnil, hcons, has-push, has-more, slots-more, _⊑_, Slots, CellOk, EntryOk, Clean}
@@ -54,7 +54,7 @@ pub record Running (t : List ℕ) (T W : List ℕ) (id p i : ℕ) (ops vs under 
   pub L : List Slot
   pub O : List Bool
   pub len : ℕ
-  pub slots : Slots t (indexOf t) T W (moduleOf (indexOf t) p) ls (localKinds t (procedureIn (indexOf t) p)) L
+  pub slots : Slots t (indexOf t) T W (moduleIn (indexOf t) p) ls (localKinds t (procedureIn (indexOf t) p)) L
   pub walk : WalkOf t (procedureIn (indexOf t) p) len i L O
   pub suspended : Suspended t (indexOf t) T W p fs
   pub types : map typeOf h ≡ T
@@ -64,8 +64,8 @@ pub record Running (t : List ℕ) (T W : List ℕ) (id p i : ℕ) (ops vs under 
   pub stack : Stack t (indexOf t) T W (frame id p i ops ls ∷ fs)
   pub bs : List Bool
   pub shape : ops ≡ pushedOn vs under
-  pub has : Has t (indexOf t) T W (moduleOf (indexOf t) p) vs (effectIn t (indexOf t) (procedureIn (indexOf t) p) (instr .flow .top) i .takes) bs
-  pub left : Has t (indexOf t) T W (moduleOf (indexOf t) p) under (instr .flow .rest) (drop (length (effectIn t (indexOf t) (procedureIn (indexOf t) p) (instr .flow .top) i .takes)) O)
+  pub has : Has t (indexOf t) T W (moduleIn (indexOf t) p) vs (effectIn t (indexOf t) (procedureIn (indexOf t) p) (instr .flow .top) i .takes) bs
+  pub left : Has t (indexOf t) T W (moduleIn (indexOf t) p) under (instr .flow .rest) (drop (length (effectIn t (indexOf t) (procedureIn (indexOf t) p) (instr .flow .top) i .takes)) O)
   pub marks : O ≡ marksOn bs (drop (length (effectIn t (indexOf t) (procedureIn (indexOf t) p) (instr .flow .top) i .takes)) O)
   pub out : (m : ℕ) (cs : List Bool) → length cs ≡ length (effectIn t (indexOf t) (procedureIn (indexOf t) p) (instr .flow .top) i .takes)
       → Clean (length (effectIn t (indexOf t) (procedureIn (indexOf t) p) (instr .flow .top) i .takes)) O → Has t (indexOf t) T W m vs (effectIn t (indexOf t) (procedureIn (indexOf t) p) (instr .flow .top) i .takes) cs
@@ -115,12 +115,12 @@ module _ {t : List ℕ} {T W : List ℕ} {id p i : ℕ} {ops vs under : List Val
 
   -- what the step did to records and store
   abbrev pub Did : List Cell → List Entry → Type 0
-  Did = Change (declarer (indexOf t)) (moduleOf (indexOf t) p) (rowAt (codeOf t (procedureIn (indexOf t) p)) i .a) (rowAt (codeOf t (procedureIn (indexOf t) p)) i .b) ops h st
+  Did = Change (declarerIn (indexOf t)) (moduleIn (indexOf t) p) (rowAt (codeOf t (procedureIn (indexOf t) p)) i .a) (rowAt (codeOf t (procedureIn (indexOf t) p)) i .b) ops h st
 
   -- the frame goes on at instruction j with the values ws pushed, where there may be more records and frames
   module _ {U X : List ℕ} (more : _⊑_ T U) (later : _⊑_ W X) where
-    pub stands : (j : ℕ) → Mem j (nexts (codeOf t (procedureIn (indexOf t) p)) i) → {ws : List Value} {ls′ : List (Option Value)} → Has t (indexOf t) U X (moduleOf (indexOf t) p) ws given pushedMarks
-        → Slots t (indexOf t) U X (moduleOf (indexOf t) p) ls′ (localKinds t (procedureIn (indexOf t) p)) localsThen → FrameOk t (indexOf t) U X j [] id p (pushedOn ws under) ls′
+    pub stands : (j : ℕ) → Mem j (nexts (codeOf t (procedureIn (indexOf t) p)) i) → {ws : List Value} {ls′ : List (Option Value)} → Has t (indexOf t) U X (moduleIn (indexOf t) p) ws given pushedMarks
+        → Slots t (indexOf t) U X (moduleIn (indexOf t) p) ls′ (localKinds t (procedureIn (indexOf t) p)) localsThen → FrameOk t (indexOf t) U X j [] id p (pushedOn ws under) ls′
     unfolding onto marksOn marksAfter
     stands j m a s = record {
       named = later _ _ (R .named);
@@ -140,7 +140,7 @@ module _ {t : List ℕ} {T W : List ℕ} {id p i : ℕ} {ops vs under : List Val
 
     -- at a Call it waits for the results, before the next instruction
     pub waits : Mem (i + 1) (nexts (codeOf t (procedureIn (indexOf t) p)) i) → length pushedMarks ≡ length given
-        → Slots t (indexOf t) T W (moduleOf (indexOf t) p) ls (localKinds t (procedureIn (indexOf t) p)) localsThen → FrameOk t (indexOf t) U X (i + 1) given id p under ls
+        → Slots t (indexOf t) T W (moduleIn (indexOf t) p) ls (localKinds t (procedureIn (indexOf t) p)) localsThen → FrameOk t (indexOf t) U X (i + 1) given id p under ls
     unfolding marksAfter
     waits m l s = record {
       named = later _ _ (R .named);
@@ -158,18 +158,18 @@ module _ {t : List ℕ} {T W : List ℕ} {id p i : ℕ} {ops vs under : List Val
       walk = goesOn (R .walk) m;
     }
 
-  pub goes-on : (j : ℕ) → Mem j (nexts (codeOf t (procedureIn (indexOf t) p)) i) → {ws : List Value} {ls′ : List (Option Value)} → Has t (indexOf t) T W (moduleOf (indexOf t) p) ws given pushedMarks
-      → Slots t (indexOf t) T W (moduleOf (indexOf t) p) ls′ (localKinds t (procedureIn (indexOf t) p)) localsThen → FrameOk t (indexOf t) T W j [] id p (pushedOn ws under) ls′
+  pub goes-on : (j : ℕ) → Mem j (nexts (codeOf t (procedureIn (indexOf t) p)) i) → {ws : List Value} {ls′ : List (Option Value)} → Has t (indexOf t) T W (moduleIn (indexOf t) p) ws given pushedMarks
+      → Slots t (indexOf t) T W (moduleIn (indexOf t) p) ls′ (localKinds t (procedureIn (indexOf t) p)) localsThen → FrameOk t (indexOf t) T W j [] id p (pushedOn ws under) ls′
   goes-on j m a s = stands (λ i y e. e) (λ i y e. e) j m a s
 
   -- with other records and another store
-  pub then : (j : ℕ) → Mem j (nexts (codeOf t (procedureIn (indexOf t) p)) i) → {ws : List Value} {ls′ : List (Option Value)} {st′ : List Entry} → Has t (indexOf t) T W (moduleOf (indexOf t) p) ws given pushedMarks
-      → Slots t (indexOf t) T W (moduleOf (indexOf t) p) ls′ (localKinds t (procedureIn (indexOf t) p)) localsThen → All (EntryOk T) st′ → Owned (frame id p j (pushedOn ws under) ls′ ∷ fs) h st′
+  pub then : (j : ℕ) → Mem j (nexts (codeOf t (procedureIn (indexOf t) p)) i) → {ws : List Value} {ls′ : List (Option Value)} {st′ : List Entry} → Has t (indexOf t) T W (moduleIn (indexOf t) p) ws given pushedMarks
+      → Slots t (indexOf t) T W (moduleIn (indexOf t) p) ls′ (localKinds t (procedureIn (indexOf t) p)) localsThen → All (EntryOk T) st′ → Owned (frame id p j (pushedOn ws under) ls′ ∷ fs) h st′
       → Inv t (indexOf t) (frame id p j (pushedOn ws under) ls′ ∷ fs) h st′ n
   then j m a s e o = record { T = T; W = W; types = R .types; serial = R .serial; frames = runs (goes-on j m a s) (R .suspended); records = R .records; store = e; owned = o }
 
   -- records and store as they were
-  pub keeps : (rowAt (codeOf t (procedureIn (indexOf t) p)) i .a ≡ opWriteRef → ⊥) → (j : ℕ) → Mem j (nexts (codeOf t (procedureIn (indexOf t) p)) i) → {ws : List Value} {ls′ : List (Option Value)} → Has t (indexOf t) T W (moduleOf (indexOf t) p) ws given pushedMarks
-      → Slots t (indexOf t) T W (moduleOf (indexOf t) p) ls′ (localKinds t (procedureIn (indexOf t) p)) localsThen → Owned (frame id p j (pushedOn ws under) ls′ ∷ fs) h st
+  pub keeps : (rowAt (codeOf t (procedureIn (indexOf t) p)) i .a ≡ opWriteRef → ⊥) → (j : ℕ) → Mem j (nexts (codeOf t (procedureIn (indexOf t) p)) i) → {ws : List Value} {ls′ : List (Option Value)} → Has t (indexOf t) T W (moduleIn (indexOf t) p) ws given pushedMarks
+      → Slots t (indexOf t) T W (moduleIn (indexOf t) p) ls′ (localKinds t (procedureIn (indexOf t) p)) localsThen → Owned (frame id p j (pushedOn ws under) ls′ ∷ fs) h st
       → OutcomeOk t Did (next (state (frame id p j (pushedOn ws under) ls′ ∷ fs) h st n))
   keeps c j m a s o = (then j m a s (R .store) o, same (λ q a y j x under r. c q) refl refl)

@@ -46,7 +46,12 @@ module _ {A : Type 0} where
   nth-snoc (x ∷ h) c zero d e = inl e
   nth-snoc (x ∷ h) c (suc id) d e = nth-snoc h c id d e
 
-  head-of : {l r : List A} {v : A} → l ≡ v ∷ r → Mem v l
+  pub nth-new : (h : List A) (c : A) (id : ℕ) (d : A) → nth (h ++ (c ∷ [])) id ≡ some d → (nth h id ≡ some d) ⊎ (length h ≤ id)
+  nth-new [] c id d e = inr (omega arith)
+  nth-new (x ∷ h) c zero d e = inl e
+  nth-new (x ∷ h) c (suc id) d e = ⊎-elim (λ q. inl q) (λ q. inr (omega (arith, q))) (nth-new h c id d e)
+
+  pub head-of : {l r : List A} {v : A} → l ≡ v ∷ r → Mem v l
   head-of {r} {v} e = rw e (List·Memᴰ·head refl)
 
 uniq : (h : List Cell) (id t j x y : ℕ) → NumberIn h id t j x → NumberIn h id t j y → x ≡ y
@@ -72,25 +77,38 @@ drop-out t a r [] t′ a′ m = inr m
 drop-out t a r (entry t″ a″ id ∷ st) t′ a′ m = drop-out-go (eqb t″ t′) (eqb a″ a′) t a r t′ a′ t″ a″ id st (dropKey st t′ a′) refl m (drop-out t a r st t′ a′)
 
 module _ {decl : ℕ → ℕ} {m op o : ℕ} {ops : List Value} {h h′ : List Cell} {st st′ : List Entry} where
-  pub changed-ok : (guarded : ℕ → ℕ → Bool) → Change decl m op o ops h st h′ st′ → ((id t j : ℕ) → guarded t j ≡ true → Mem (toField id t j) ops → decl t ≡ m) → (id t j x y : ℕ) → guarded t j ≡ true → NumberIn h id t j x → NumberIn h′ id t j y → x ≢ y
-      → (op ≡ opWriteRef) × ((under : List Value) × (ops ≡ toField id t j ∷ num y ∷ under)) × (decl t ≡ m)
-  changed-ok guarded (same c e d) k id t j x y g a b n = absurd (n (uniq h id t j x y a (rw e at b)))
-  changed-ok guarded (wrote c t′ j′ x′ vs under q r l e d) k id t j x y g a b n =
+  -- a number that differs was written
+  pub changed-ok : Change decl m op o ops h st h′ st′ → (id t j x y : ℕ) → NumberIn h id t j x → NumberIn h′ id t j y → x ≢ y → (op ≡ opWriteRef) × ((under : List Value) × (ops ≡ toField id t j ∷ num y ∷ under))
+  changed-ok (same c e d) id t j x y a b n = absurd (n (uniq h id t j x y a (rw e at b)))
+  changed-ok (wrote c t′ j′ x′ vs under q r l e d) id t j x y a b n =
       ⊎-elim
       (λ z. let w : nth (set vs j′ (num x′)) j ≡ some (num y) = cc (z .1, b .number) in
       ⊎-elim
-      (λ u. let v : ops ≡ toField id t j ∷ num y ∷ under = cc (r, z .0, z .1, u .0, u .1) in (q, (under, v), k id t j g (head-of v)))
+      (λ u. (q, (under, cc (r, z .0, z .1, u .0, u .1))))
       (λ u. let v : here t′ vs ≡ here t (a .fields) = cc (l, z .0, a .exists) in absurd (n (cc (u, v, a .number))))
       (nth-set vs j′ j (num x′) (num y) w))
       (λ z. absurd (n (uniq h id t j x y a (record { fields = b .fields; exists = z; number = b .number }))))
       (nth-set h c id (here t′ (set vs j′ (num x′))) (here t (b .fields)) (rw e at (b .exists)))
-  changed-ok guarded (packed vs lt q m e d) k id t j x y g a b n =
+  changed-ok (packed vs lt q m e d) id t j x y a b n =
       absurd (n (uniq (h ++ (here o vs ∷ [])) id t j x y (record { fields = a .fields; exists = nth-app h (here o vs ∷ []) id (here t (a .fields)) (a .exists); number = a .number }) (rw e at b)))
-  changed-ok guarded (unpacked c vs q m l e d) k id t j x y g a b n =
+  changed-ok (unpacked c vs q m l e d) id t j x y a b n =
       ⊎-elim (λ z. absurd (clash (cc (z .1)))) (λ z. absurd (n (uniq h id t j x y a (record { fields = b .fields; exists = z; number = b .number }))))
       (nth-set h c id (gone o) (here t (b .fields)) (rw e at (b .exists)))
-  changed-ok guarded (published c r fk lt q m e d) k id t j x y g a b n = absurd (n (uniq h id t j x y a (rw e at b)))
-  changed-ok guarded (withdrew c q m e d) k id t j x y g a b n = absurd (n (uniq h id t j x y a (rw e at b)))
+  changed-ok (published c r fk lt q m e d) id t j x y a b n = absurd (n (uniq h id t j x y a (rw e at b)))
+  changed-ok (withdrew c q m e d) id t j x y a b n = absurd (n (uniq h id t j x y a (rw e at b)))
+
+  pub fields-ok : Change decl m op o ops h st h′ st′ → (id t : ℕ) (vs vs′ : List Value) → nth h id ≡ some (here t vs) → nth h′ id ≡ some (here t vs′)
+      → (vs′ ≡ vs) ⊎ ((j z : ℕ) × (vs′ ≡ set vs j (num z)) × (op ≡ opWriteRef) × ((under : List Value) × (ops ≡ toField id t j ∷ num z ∷ under)))
+  fields-ok (same c e d) id t vs vs′ a b = inl (cc (a, rw e at b))
+  fields-ok (wrote c t′ j′ x′ us under q r l e d) id t vs vs′ a b =
+      ⊎-elim
+      (λ z. let w : here t′ us ≡ here t vs = cc (l, z .0, a) in let v : us ≡ vs = cc (w) in let u : set us j′ (num x′) ≡ vs′ = cc (z .1) in inr (j′, x′, sym u ∙ ap (λ (k : List Value). set k j′ (num x′)) v, q, (under, cc (r, z .0, z .1))))
+      (λ z. inl (cc (a, z)))
+      (nth-set h c id (here t′ (set us j′ (num x′))) (here t vs′) (rw e at b))
+  fields-ok (packed us lt q m e d) id t vs vs′ a b = inl (cc (nth-app h (here o us ∷ []) id (here t vs) a, rw e at b))
+  fields-ok (unpacked c us q m l e d) id t vs vs′ a b = ⊎-elim (λ z. absurd (clash (cc (z .1)))) (λ z. inl (cc (a, z))) (nth-set h c id (gone o) (here t vs′) (rw e at b))
+  fields-ok (published c r fk lt q m e d) id t vs vs′ a b = inl (cc (a, rw e at b))
+  fields-ok (withdrew c q m e d) id t vs vs′ a b = inl (cc (a, rw e at b))
 
   pub made-ok : Change decl m op o ops h st h′ st′ → (id t : ℕ) → Exists h′ id t → ¬ (Exists h id t) → (op ≡ opPack) × (o ≡ t) × (decl t ≡ m)
   made-ok (same c e d) id t a n = absurd (n (a .0, rw e at (a .1)))
@@ -100,6 +118,15 @@ module _ {decl : ℕ → ℕ} {m op o : ℕ} {ops : List Value} {h h′ : List C
   made-ok (unpacked c vs q m l e d) id t a n = ⊎-elim (λ z. absurd (clash (cc (z .1)))) (λ z. absurd (n (a .0, z))) (nth-set h c id (gone o) (here t (a .0)) (rw e at (a .1)))
   made-ok (published c r fk lt q m e d) id t a n = absurd (n (a .0, rw e at (a .1)))
   made-ok (withdrew c q m e d) id t a n = absurd (n (a .0, rw e at (a .1)))
+
+  pub fresh-ok : Change decl m op o ops h st h′ st′ → (id t : ℕ) → Exists h′ id t → ¬ (Exists h id t) → length h ≤ id
+  fresh-ok (same c e d) id t a n = absurd (n (a .0, rw e at (a .1)))
+  fresh-ok (wrote c t′ j′ x′ vs under q r l e d) id t a n =
+      ⊎-elim (λ z. absurd (n (vs, cc (l, z .0, z .1)))) (λ z. absurd (n (a .0, z))) (nth-set h c id (here t′ (set vs j′ (num x′))) (here t (a .0)) (rw e at (a .1)))
+  fresh-ok (packed vs lt q m e d) id t a n = ⊎-elim (λ z. absurd (n (a .0, z))) (λ z. z) (nth-new h (here o vs) id (here t (a .0)) (rw e at (a .1)))
+  fresh-ok (unpacked c vs q m l e d) id t a n = ⊎-elim (λ z. absurd (clash (cc (z .1)))) (λ z. absurd (n (a .0, z))) (nth-set h c id (gone o) (here t (a .0)) (rw e at (a .1)))
+  fresh-ok (published c r fk lt q m e d) id t a n = absurd (n (a .0, rw e at (a .1)))
+  fresh-ok (withdrew c q m e d) id t a n = absurd (n (a .0, rw e at (a .1)))
 
   pub broken-ok : Change decl m op o ops h st h′ st′ → (id t : ℕ) → Exists h id t → ¬ (Exists h′ id t) → (op ≡ opUnpack) × (o ≡ t) × (decl t ≡ m)
   broken-ok (same c e d) id t a n = absurd (n (a .0, rw e (a .1)))

@@ -18,8 +18,8 @@ use Rattle.judged.specs.Judged.{Instruction, Judged}
 use Rattle.rules.specs.Machine.{Value, valueKind, Cell, Entry, Frame, frame, State, state, Outcome, next, finished, stopped, stuck}
 use Rattle.rules.specs.Step.{taken, took, topKind, instruction, effectAt, act, step}
 use Rattle.rules.specs.Ownership.{inValues}
-use Rattle.rules.specs.Words.{moduleOf, declarer}
-use Rattle.rules.specs.Claim.{Owned, Ready, ReadyState}
+use Rattle.rules.proofs.Indexed.{moduleIn, declarerIn}
+use Rattle.rules.specs.Claim.{Owned}
 use Rattle.rules.proofs.Counts.{held-rev}
 use Rattle.rules.proofs.Changes.{Change}
 use Rattle.rules.proofs.Typing.{Has, has-kinds, Took, take-off}
@@ -73,7 +73,7 @@ StateOk t (state fs h st n) = Inv t (indexOf t) fs h st n
 abbrev pub DidAt : List ℕ → State → List Cell → List Entry → Type 0
 DidAt t (state [] h st n) h′ st′ = ⊥
 DidAt t (state (frame id p i ops ls ∷ fs) h st n) h′ st′ =
-    Change (declarer (indexOf t)) (moduleOf (indexOf t) p) (rowAt (codeOf t (procedureIn (indexOf t) p)) i .a) (rowAt (codeOf t (procedureIn (indexOf t) p)) i .b) ops h st h′ st′
+    Change (declarerIn (indexOf t)) (moduleIn (indexOf t) p) (rowAt (codeOf t (procedureIn (indexOf t) p)) i .a) (rowAt (codeOf t (procedureIn (indexOf t) p)) i .b) ops h st h′ st′
 
 module _ (t : List ℕ) (judged : Judged t (indexOf t)) where
   -- a running frame and the operands that its instruction takes
@@ -88,7 +88,7 @@ module _ (t : List ℕ) (judged : Judged t (indexOf t)) where
     unfolding onto
     kinds-are = good-same (sym (f .kinds) ∙ instr .flow .before)
 
-    takes-off : Took t (indexOf t) T W (moduleOf (indexOf t) p) ops (effect .takes) (instr .flow .rest) (f .O)
+    takes-off : Took t (indexOf t) T W (moduleIn (indexOf t) p) ops (effect .takes) (instr .flow .rest) (f .O)
     takes-off = take-off (effect .takes) (rw kinds-are at (f .has))
 
     -- the effect is the one that the judge found
@@ -140,18 +140,14 @@ module _ (t : List ℕ) (judged : Judged t (indexOf t)) where
       go fs (runs {id} {p} {i} {ops} {ls} {fs = gs} f s) o =
           rw (effect-found f, instr f .flow .fit, takes-off f .found) (by-opcode (running v f s o) (rowAt (codeOf t (procedureIn (indexOf t) p)) i .a) (instr f .opcode) refl)
 
-  -- what comes up is ready
+  -- what comes up has its operands, and is not stuck
   not-stuck : (C : List Cell → List Entry → Type 0) (o : Outcome) → OutcomeOk t C o → o ≡ stuck → ⊥
   not-stuck C o k e = rw e at k
 
-  pub state-ready : (s : State) → StateOk t s → ReadyState t (indexOf t) s
-  state-ready (state fs h st n) v = go fs (v .frames) (step-ok (state fs h st n) v)
-    where
-      go : (fs : List Frame) → Stack t (indexOf t) (v .T) (v .W) fs → OutcomeOk t (DidAt t (state fs h st n)) (step t (indexOf t) (state fs h st n)) → ReadyState t (indexOf t) (state fs h st n)
-      go fs (runs {id} {p} {i} {ops} {ls} {fs = gs} f s) k = record {
-        procedure = f .there;
-        inside = f .inside;
-        fit = ap (λ (x : Effect). x .fit) (effect-found f) ∙ instr f .flow .fit;
-        operands = (takes-off f .vs, takes-off f .under, ap (λ (x : Effect). taken (x .takes) ops) (effect-found f) ∙ takes-off f .found);
-        moves = not-stuck (DidAt t (state (frame id p i ops ls ∷ gs) h st n)) (step t (indexOf t) (state (frame id p i ops ls ∷ gs) h st n)) k;
-      }
+  pub runs-on : (s : State) → StateOk t s → step t (indexOf t) s ≡ stuck → ⊥
+  runs-on s v = not-stuck (DidAt t s) (step t (indexOf t) s) (step-ok s v)
+
+  pub takes-there : {T W : List ℕ} {id p i : ℕ} {ops : List Value} {ls : List (Option Value)} → FrameOk t (indexOf t) T W i [] id p ops ls
+      → (effectAt t (indexOf t) p i ops .fit ≡ true) × ((vs under : List Value) × (taken (effectAt t (indexOf t) p i ops .takes) ops ≡ took vs under))
+  takes-there {ops} f =
+      (ap (λ (x : Effect). x .fit) (effect-found f) ∙ instr f .flow .fit, (takes-off f .vs, takes-off f .under, ap (λ (x : Effect). taken (x .takes) ops) (effect-found f) ∙ takes-off f .found))

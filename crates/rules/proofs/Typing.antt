@@ -16,7 +16,7 @@ use Rattle.judged.specs.Judged.{localKinds}
 use Rattle.rules.specs.Machine.{Value, num, obj, toLocal, toField, toRecord, valueKind, Cell, gone, here, Entry, entry, Frame, frame, content}
 use Rattle.rules.specs.Step.{pushedOn, Taken, took, missing, taken, alsoTaken, startLocals, isObject, noneHeld}
 use Rattle.rules.specs.Ownership.{inValue, inValues, inSlot, inLocals}
-use Rattle.rules.specs.Words.{declarer, guardedField}
+use Rattle.rules.proofs.Indexed.{declarerIn, guardedIn}
 use Rattle.rules.specs.Claim.{All, none-left, also}
 use Rattle.rules.proofs.Changes.{clash}
 use Rattle.rules.proofs.Sorts.{record-is, record-plain, reference-is, reference-loose, to-reference, to-loose}
@@ -31,7 +31,7 @@ pub data Fit (t : List ℕ) (ix : Index) (T W : List ℕ) (m : ℕ) : Value → 
   fnum : {n k : ℕ} {b : Bool} → Word n → k ≡ number → Fit t ix T W m (num n) k b
   fobj : {id y k : ℕ} {b : Bool} → nth T id ≡ some y → k ≡ recordOf y → Fit t ix T W m (obj id y) k b
   floc : {f l p c k : ℕ} {b : Bool} → nth W f ≡ some p → nth (localKinds t (procedureIn ix p)) l ≡ some c → isReference c ≡ false → k ≡ referenceTo c → Fit t ix T W m (toLocal f l c) k b
-  ffld : {id y j k : ℕ} {b : Bool} → nth T id ≡ some y → nth (fieldKinds t (typeIn ix y)) j ≡ some number → (guardedField t ix y j ≡ true → (b ≡ true) × (declarer ix y ≡ m)) → k ≡ numberRef
+  ffld : {id y j k : ℕ} {b : Bool} → nth T id ≡ some y → nth (fieldKinds t (typeIn ix y)) j ≡ some number → (guardedIn t ix y j ≡ true → (b ≡ true) × (declarerIn ix y ≡ m)) → k ≡ numberRef
       → Fit t ix T W m (toField id y j) k b
   frec : {id y k : ℕ} {b : Bool} → nth T id ≡ some y → k ≡ recordRef y → Fit t ix T W m (toRecord id y) k b
 

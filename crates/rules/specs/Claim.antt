@@ -1,27 +1,32 @@
--- Demand 3: one claim about every event of the history of a list of calls.
-use Prim.Native.Nat.{ℕ, _+_, _<_, _≤_}
+-- Demand 3: what is safe of an event of a list of calls. `Chain` says which events there are.
+use Prim.Native.Nat.{ℕ, suc, _+_, _-_, _/_, _%_, _<_, _≤_}
 use mathlib.Core.Path.{_≡_}
 use mathlib.Core.Bool.{Bool, true, false}
-use mathlib.Core.List.{List, [], _∷_}
-use mathlib.Core.Logic.{_≢_}
+use mathlib.Core.List.{List, [], _∷_, map}
+use mathlib.Core.Logic.{_≢_, _⊎_}
 use mathlib.Core.Option.{Option, none, some}
-use lib.ListN.{length, getElem? as nth}
+use lib.ListN.{length, set, getElem? as nth}
 use Rattle.table.specs.declared.index.Index.{Index}
-use Rattle.table.specs.Format.{maxResults, opWriteRef, opPack, opUnpack, opMoveTo, opMoveFrom}
-use Rattle.table.specs.Rows.{rowCount}
-use Rattle.program.specs.Program.{procedureIn, codeOf}
+use Rattle.table.specs.Format.{instructionKind, maxResults, opWriteRef, opBorrowLoc, opBorrowFld, opBorrowGlobal, opCall, opRet, opPack, opUnpack, opMoveTo, opMoveFrom}
+use Rattle.table.specs.Rows.{rowAt, kindAt}
+use Rattle.table.specs.Index.{ownerAt}
+use Rattle.program.specs.Program.{number, isReference, localKind, localCount}
 use Rattle.reach.specs.Reach.{Mem}
 use Rattle.rules.specs.Limits.{pastNumbers}
-use Rattle.rules.specs.Machine.{Value, num, obj, toField, Cell, gone, here, Entry, Frame, frame, State, state, Outcome, next, finished, stopped, stuck}
-use Rattle.rules.specs.Step.{Taken, took, taken, instruction, effectAt, step}
+use Rattle.rules.specs.Machine.{Value, valueKind, num, obj, toLocal, toField, toRecord, putLocal, findKey, Cell, gone, here, Entry, Frame, frame, State, state, Outcome, next, finished, stopped, stuck, aRecord, target}
+use Rattle.rules.specs.Step.{pushedOn, startLocals, took, taken, instruction, effectAt, step}
 use Rattle.rules.specs.History.{Base, base, Event, moment, ended}
 use Rattle.rules.specs.Ownership.{inFrames, inRecords, inStore, livesAt}
-use Rattle.rules.specs.Words.{moduleOf, declarer, guest, guardedField, GuardedReference, Holds, Exists, NumberIn, IsEntry}
+use Rattle.rules.specs.Words.{typeCount, procedureCount, moduleOf, declarer, inGuest, guest, guardedField, kindsIn, bodyOf, instructionRow, GuardedReference, Holds, Exists, Existed, NumberIn, IsEntry, InStore}
 
 -- something holds of every element of a list
 pub data All {A : Type 0} (Q : A → Type 0) : List A → Type 0 where
   none-left : All Q []
   also : {x : A} {xs : List A} → Q x → All Q xs → All Q (x ∷ xs)
+
+-- each of two implies the other
+abbrev pub _⇔_ : Type 0 → Type 0 → Type 0
+_⇔_ A B = (A → B) × (B → A)
 
 -- each live record is held exactly once, and no other
 abbrev pub Owned : List Frame → List Cell → List Entry → Type 0
@@ -40,76 +45,183 @@ pub data Reached (rs : List Cell) (st : List Entry) : ℕ → Type 0 where
 abbrev pub IsNumber : Value → Type 0
 IsNumber v = (n : ℕ) × (v ≡ num n) × (n < pastNumbers)
 
--- in a table with this index
-module _ (t : List ℕ) (ix : Index) where
-  -- 1. The instruction that comes up is there, no operand of it is missing or of the wrong kind, its local is fit, and it is not stuck
-  pub record Ready (id p i : ℕ) (ops : List Value) (s : State) : Type 0 where
-    pub procedure : p < ix .procedures
-    pub inside : i < rowCount (codeOf t (procedureIn ix p))
-    pub fit : effectAt t ix p i ops .fit ≡ true
-    pub operands : (vs under : List Value) × (taken (effectAt t ix p i ops .takes) ops ≡ took vs under)
-    pub moves : step t ix s ≡ stuck → ⊥
+-- the identities of frames rise from the bottom, all below n
+abbrev pub Rising : ℕ → List Frame → Type 0
+Rising n [] = Unit {0}
+Rising n (frame id p i ops ls ∷ fs) = (id < n) × Rising id fs
+
+abbrev pub IsReference : Value → Type 0
+IsReference (num n) = ⊥
+IsReference (obj id y) = ⊥
+IsReference (toLocal f l k) = Unit {0}
+IsReference (toField id y j) = Unit {0}
+IsReference (toRecord id y) = Unit {0}
+
+-- what a field may hold: a number of 64 bits or a record, no reference
+abbrev pub Plain : Value → Type 0
+Plain (num n) = n < pastNumbers
+Plain (obj id y) = Unit {0}
+Plain (toLocal f l k) = ⊥
+Plain (toField id y j) = ⊥
+Plain (toRecord id y) = ⊥
+
+-- of a table
+module _ (t : List ℕ) where
+  -- a record that exists is of a type of the table and has exactly its fields: in each a number, or a record of the type that it names
+  abbrev pub Shaped : List Cell → Type 0
+  Shaped rs = (id y : ℕ) (vs : List Value) → nth rs id ≡ some (here y vs) → (y < typeCount t) × (map valueKind vs ≡ kindsIn t y)
+
+  -- the record of an entry exists and is of the key's type
+  abbrev pub Entered : List Cell → List Entry → Type 0
+  Entered rs st = (y a id : ℕ) → IsEntry st y a id → Exists rs id y
+
+  -- 6. Records and entries, with the frames that hold some of the records
+  pub record Sound (fs : List Frame) (rs : List Cell) (st : List Entry) : Type 0 where
+    pub owned : Owned fs rs st
+    pub nested : Nested rs
+    pub plain : (id y : ℕ) (vs : List Value) → nth rs id ≡ some (here y vs) → All Plain vs
+    pub shaped : Shaped rs
+    pub entered : Entered rs st
+
+  -- A value is what it says. A reference names its record by the type that the record has or had, a field of it by the place of a number field; a
+  -- reference to a local has the kind, no reference's, that the frame's procedure declares for the local
+  abbrev pub Labelled : List Frame → List Cell → ℕ → Value → Type 0
+  Labelled fs rs n (num x) = x < pastNumbers
+  Labelled fs rs n (obj id y) = Exists rs id y
+  Labelled fs rs n (toRecord id y) = Existed rs id y
+  Labelled fs rs n (toField id y j) = Existed rs id y × (nth (kindsIn t y) j ≡ some number)
+  Labelled fs rs n (toLocal f l k) =
+      (f < n) × (isReference k ≡ false) × ((p i : ℕ) (ops : List Value) (ls : List (Option Value)) → Mem (frame f p i ops ls) fs → (l < localCount (bodyOf t p)) × (localKind t (bodyOf t p) l ≡ k))
+
+  -- what a frame holds is what it says, and in a local of the declared kind
+  pub data Typed (fs : List Frame) (rs : List Cell) (n : ℕ) : Frame → Type 0 where
+    typed : {id p i : ℕ} {ops : List Value} {ls : List (Option Value)} → ((v : Value) → Holds (frame id p i ops ls) v → Labelled fs rs n v)
+        → ((l : ℕ) (v : Value) → nth ls l ≡ some (some v) → (l < localCount (bodyOf t p)) × (valueKind v ≡ localKind t (bodyOf t p) l)) → Typed fs rs n (frame id p i ops ls)
+
+  -- each frame under one of procedure q stands at the Call of the one above it
+  pub data Linked : ℕ → List Frame → Type 0 where
+    first : {q : ℕ} → Linked q []
+    under : {q id p i : ℕ} {ops : List Value} {ls : List (Option Value)} {fs : List Frame} → p < procedureCount t → instructionRow t p i < bodyOf t p .end
+        → rowAt t (instructionRow t p i) .a ≡ opCall → rowAt t (instructionRow t p i) .b ≡ q → Linked p fs → Linked q (frame id p i ops ls ∷ fs)
 
   -- 2. No frame of a guest holds a reference to a guarded field; others hold only those of their own module's types
   abbrev pub Kept : Frame → Type 0
   Kept (frame id p i ops ls) =
-      (v : Value) → Holds (frame id p i ops ls) v → GuardedReference t ix v
-      → (guest t ix p ≡ false) × ((id′ y j : ℕ) → v ≡ toField id′ y j → declarer ix y ≡ moduleOf ix p)
+      (v : Value) → Holds (frame id p i ops ls) v → GuardedReference t v → (guest t p ≡ false) × ((id′ y j : ℕ) → v ≡ toField id′ y j → declarer t y ≡ moduleOf t p)
 
-  -- the step writes number z to field j of record id, of type y: it is WriteRef through a reference to that field of that record
-  abbrev pub Writes : ℕ → ℕ → List Value → ℕ → ℕ → ℕ → ℕ → Type 0
-  Writes p i ops id y j z = (instruction t ix p i .a ≡ opWriteRef) × ((under : List Value) × (ops ≡ toField id y j ∷ num z ∷ under))
+  -- The step of a row writes number z to field j of record id, of type y: it is WriteRef through a reference to that field of that record
+  abbrev pub Writes : ℕ → List Value → ℕ → ℕ → ℕ → ℕ → Type 0
+  Writes row ops id y j z = (rowAt t row .a ≡ opWriteRef) × ((under : List Value) × (ops ≡ toField id y j ∷ num z ∷ under))
 
-  -- the step is this instruction of type y, in the module that declares y
-  abbrev pub By : ℕ → ℕ → ℕ → ℕ → Type 0
-  By p i op y = (instruction t ix p i .a ≡ op) × (instruction t ix p i .b ≡ y) × (declarer ix y ≡ moduleOf ix p)
+  -- it is this instruction of type y, which exists, in the module that declares y
+  pub record By (row op y : ℕ) : Type 0 where
+    pub opcode : rowAt t row .a ≡ op
+    pub operand : rowAt t row .b ≡ y
+    pub there : y < typeCount t
+    pub own : declarer t y ≡ ownerAt t row
 
-  -- 3 and 4. What a step of instruction i of procedure p may do to records and store
-  pub record Proper (p i : ℕ) (ops : List Value) (rs : List Cell) (st : List Entry) (rs′ : List Cell) (st′ : List Entry) : Type 0 where
-    -- a guarded number of a record that exists before and after differs exactly if the step writes another number to it, and then its module declares the type
-    pub changed : (id y j x x′ : ℕ) → guardedField t ix y j ≡ true → NumberIn rs id y j x → NumberIn rs′ id y j x′ → x ≢ x′
-        → Writes p i ops id y j x′ × (declarer ix y ≡ moduleOf ix p)
-    pub written : (id y j x x′ z : ℕ) → NumberIn rs id y j x → NumberIn rs′ id y j x′ → Writes p i ops id y j z → x′ ≡ z
-    -- a record is made and broken up, an entry published and withdrawn, by a step of the declaring module only
-    pub made : (id y : ℕ) → Exists rs′ id y → ¬ (Exists rs id y) → By p i opPack y
-    pub broken : (id y : ℕ) → Exists rs id y → ¬ (Exists rs′ id y) → By p i opUnpack y
-    pub published : (y a id : ℕ) → IsEntry st′ y a id → ¬ (IsEntry st y a id) → By p i opMoveTo y
-    pub withdrawn : (y a id : ℕ) → IsEntry st y a id → ¬ (IsEntry st′ y a id) → By p i opMoveFrom y
-    -- identities are not used again
+  -- 3 and 4. What the step of a row, over the operands ops, does to records and store
+  pub record Proper (row : ℕ) (ops : List Value) (rs : List Cell) (st : List Entry) (rs′ : List Cell) (st′ : List Entry) : Type 0 where
+    -- a guarded number of a record that exists before and after differs exactly if the step writes another number to it
+    pub changed : (id y j x x′ : ℕ) → guardedField t y j ≡ true → NumberIn rs id y j x → NumberIn rs′ id y j x′ → _⇔_ (x ≢ x′) ((z : ℕ) × Writes row ops id y j z × (x ≢ z))
+    -- what is written is there afterwards, and a guarded number is written in the module that declares the type
+    pub written : (id y j x x′ z : ℕ) → NumberIn rs id y j x → NumberIn rs′ id y j x′ → Writes row ops id y j z → x′ ≡ z
+    pub own : (id y j z : ℕ) → guardedField t y j ≡ true → Writes row ops id y j z → declarer t y ≡ ownerAt t row
+    -- a record that is there before and after keeps its fields, numbers and nested records, but for one number that is written to it
+    pub fields : (id y : ℕ) (vs vs′ : List Value) → nth rs id ≡ some (here y vs) → nth rs′ id ≡ some (here y vs′) → (vs′ ≡ vs) ⊎ ((j z : ℕ) × (vs′ ≡ set vs j (num z)) × Writes row ops id y j z)
+    -- a record is made by Pack and broken up by Unpack of its type; one that is made is another than every one before, those broken up included
+    pub made : (id y : ℕ) → Exists rs′ id y → ¬ (Exists rs id y) → By row opPack y
+    pub broken : (id y : ℕ) → Exists rs id y → ¬ (Exists rs′ id y) → By row opUnpack y
+    pub fresh : (id y : ℕ) → Exists rs′ id y → ¬ (Exists rs id y) → length rs ≤ id
     pub grows : length rs ≤ length rs′
+    -- a record is published by MoveTo and withdrawn by MoveFrom of its type, and so is each of its keys
+    pub published : (id y : ℕ) → Exists rs′ id y → InStore st′ id → ¬ (InStore st id) → By row opMoveTo y
+    pub withdrawn : (id y : ℕ) → Exists rs id y → InStore st id → ¬ (InStore st′ id) → By row opMoveFrom y
+    pub entered : (y a id : ℕ) → IsEntry st′ y a id → ¬ (IsEntry st y a id) → By row opMoveTo y
+    pub left : (y a id : ℕ) → IsEntry st y a id → ¬ (IsEntry st′ y a id) → By row opMoveFrom y
 
-  abbrev pub ProperOutcome : State → Outcome → Type 0
-  ProperOutcome (state [] rs st n) o = ⊥
-  ProperOutcome (state (frame id p i ops ls ∷ fs) rs st n) (next (state fs′ rs′ st′ n′)) = Proper p i ops rs st rs′ st′
-  ProperOutcome (state (frame id p i ops ls ∷ fs) rs st n) (finished vs (state fs′ rs′ st′ n′)) = Proper p i ops rs st rs′ st′
-  ProperOutcome (state (frame id p i ops ls ∷ fs) rs st n) (stopped k) = Unit {0}
-  ProperOutcome (state (frame id p i ops ls ∷ fs) rs st n) stuck = ⊥
+  -- The step of a row makes a reference: BorrowLoc to that local of its own frame; BorrowFld, through a reference that leads to a record, to that field of
+  -- that record, or to the record that stands in it; BorrowGlobal to the record under that key
+  pub data Makes (row id p : ℕ) (ops : List Value) (fs : List Frame) (rs : List Cell) (st : List Entry) : Value → Type 0 where
+    local-made : rowAt t row .a ≡ opBorrowLoc → Makes row id p ops fs rs st (toLocal id (rowAt t row .b) (localKind t (bodyOf t p) (rowAt t row .b)))
+    field-made : {r : Value} {under fields : List Value} {c : ℕ} → rowAt t row .a ≡ opBorrowFld → ops ≡ r ∷ under → target fs rs r ≡ aRecord c fields
+        → Makes row id p ops fs rs st (toField c (rowAt t row .b / 8) (rowAt t row .b % 8))
+    nested-made : {r : Value} {under fields : List Value} {c c′ y : ℕ} → rowAt t row .a ≡ opBorrowFld → ops ≡ r ∷ under → target fs rs r ≡ aRecord c fields
+        → nth fields (rowAt t row .b % 8) ≡ some (obj c′ y) → Makes row id p ops fs rs st (toRecord c′ y)
+    entry-made : {under : List Value} {a c : ℕ} → rowAt t row .a ≡ opBorrowGlobal → ops ≡ num a ∷ under → findKey st (rowAt t row .b) a ≡ some c
+        → Makes row id p ops fs rs st (toRecord c (rowAt t row .b))
 
-  abbrev pub ReadyState : State → Type 0
-  ReadyState (state [] rs st n) = ⊥
-  ReadyState (state (frame id p i ops ls ∷ fs) rs st n) = Ready id p i ops (state (frame id p i ops ls ∷ fs) rs st n)
+  -- of frames with this index
+  module _ (ix : Index) where
+    -- what the instruction that comes up takes, and what lies under it
+    abbrev pub Takes : ℕ → ℕ → List Value → List Value → List Value → Type 0
+    Takes p i ops vs rest = taken (effectAt t ix p i ops .takes) ops ≡ took vs rest
 
-  abbrev pub KeptState : State → Type 0
-  KeptState (state fs rs st n) = All Kept fs
+    -- What a step leaves of the frames: frame id of procedure p with locals ls ran, over the frames fs. Those under it stay as they were, but for a number
+    -- that WriteRef puts into a local through a reference to it; what a Call takes goes to the called frame, what Ret takes to the caller's
+    pub data Handed (row id p i : ℕ) (ops : List Value) (ls : List (Option Value)) (fs : List Frame) (n : ℕ) : List Frame → ℕ → Type 0 where
+      goesOn : {j : ℕ} {ops′ : List Value} {ls′ : List (Option Value)} → rowAt t row .a ≢ opCall → rowAt t row .a ≢ opRet → Handed row id p i ops ls fs n (frame id p j ops′ ls′ ∷ fs) n
+      writes : {f l k z : ℕ} {rest : List Value} → rowAt t row .a ≡ opWriteRef → ops ≡ toLocal f l k ∷ num z ∷ rest
+          → Handed row id p i ops ls fs n (putLocal (frame id p (i + 1) rest ls ∷ fs) f l (num z)) n
+      calls : {vs rest : List Value} → rowAt t row .a ≡ opCall → Takes p i ops vs rest
+          → Handed row id p i ops ls fs n (frame n (rowAt t row .b) 0 [] (startLocals vs (localCount (bodyOf t (rowAt t row .b)) - length vs)) ∷ frame id p i rest ls ∷ fs) (n + 1)
+      returns : {vs : List Value} {id′ p′ i′ : ℕ} {ops′ : List Value} {ls′ : List (Option Value)} {rest : List Frame} → rowAt t row .a ≡ opRet → Takes p i ops vs [] → fs ≡ frame id′ p′ i′ ops′ ls′ ∷ rest
+          → Handed row id p i ops ls fs n (frame id′ p′ (i′ + 1) (pushedOn vs ops′) ls′ ∷ rest) n
 
-  abbrev pub OwnedState : State → Type 0
-  OwnedState (state fs rs st n) = Owned fs rs st × Nested rs
+    -- A reference that the frame that ran holds after a step, where it is still on top, it held before, or the step made it
+    abbrev pub Origin : (row id p i : ℕ) → List Value → List (Option Value) → List Frame → List Cell → List Entry → List Frame → Type 0
+    Origin row id p i ops ls fs rs st [] = Unit {0}
+    Origin row id p i ops ls fs rs st (frame id′ p′ i′ ops′ ls′ ∷ fs′) =
+        id′ ≡ id → (v : Value) → IsReference v → Holds (frame id′ p′ i′ ops′ ls′) v → Holds (frame id p i ops ls) v ⊎ Makes row id p ops (frame id p i ops ls ∷ fs) rs st v
 
-  -- 5. A finished call returns at most four numbers. A stopped call leaves the store of its beginning: the same entries, and the same records with the same fields; no other record exists
-  abbrev pub Restored : Base → Base → Type 0
-  Restored (base rs st n) (base rs′ st′ n′) =
-      (st′ ≡ st) × ((id : ℕ) (c : Cell) → nth rs id ≡ some c → nth rs′ id ≡ some c) × ((id y : ℕ) → length rs ≤ id → ¬ (Exists rs′ id y))
+    -- 1. The row told is that of the instruction that comes up; no operand of it is missing or of the wrong kind, its local is fit, and it is not stuck
+    pub record Ready (row p i : ℕ) (ops : List Value) (s : State) : Type 0 where
+      pub procedure : p < procedureCount t
+      pub place : row ≡ instructionRow t p i
+      pub inside : row < bodyOf t p .end
+      pub kind : kindAt t row ≡ instructionKind
+      pub found : instruction t ix p i ≡ rowAt t row
+      pub standsIn : ownerAt t row ≡ moduleOf t p
+      pub guests : inGuest t row ≡ guest t p
+      pub fit : effectAt t ix p i ops .fit ≡ true
+      pub operands : (vs rest : List Value) × Takes p i ops vs rest
+      pub moves : step t ix s ≡ stuck → ⊥
 
-  abbrev pub EndOf : Base → State → Outcome → Base → Type 0
-  EndOf before s (finished vs (state fs rs st n)) after = (after ≡ base rs st n) × All IsNumber vs × (length vs ≤ maxResults)
-  EndOf before s (next s′) after = ⊥
-  EndOf before s (stopped k) after = Restored before after
-  EndOf before s stuck after = ⊥
+    -- a state in which frame id of procedure p is at instruction i, with the row told
+    pub record SafeState (row id p i : ℕ) (ops : List Value) (ls : List (Option Value)) (fs : List Frame) (rs : List Cell) (st : List Entry) (n : ℕ) : Type 0 where
+      pub ready : Ready row p i ops (state (frame id p i ops ls ∷ fs) rs st n)
+      pub kept : All Kept (frame id p i ops ls ∷ fs)
+      pub sound : Sound (frame id p i ops ls ∷ fs) rs st
+      pub types : All (Typed (frame id p i ops ls ∷ fs) rs n) (frame id p i ops ls ∷ fs)
+      pub linked : Linked p fs
+      pub rising : Rising n (frame id p i ops ls ∷ fs)
 
-  -- no identity of the call is used again; between calls every record that exists is reached from the store
-  abbrev pub Later : State → Base → Type 0
-  Later (state fs rs st n) (base rs′ st′ n′) = (length rs ≤ length rs′) × Owned [] rs′ st′ × Nested rs′ × ((id y : ℕ) → Exists rs′ id y → Reached rs′ st′ id)
+    -- what comes of it: a step; the Ret of the first frame, with exactly what it takes; or a stop
+    pub data SafeOutcome (row id p i : ℕ) (ops : List Value) (ls : List (Option Value)) (fs : List Frame) (rs : List Cell) (st : List Entry) (n : ℕ) : Outcome → Type 0 where
+      goes : {fs′ : List Frame} {rs′ : List Cell} {st′ : List Entry} {n′ : ℕ} → Proper row ops rs st rs′ st′ → Handed row id p i ops ls fs n fs′ n′ → Origin row id p i ops ls fs rs st fs′
+          → SafeOutcome row id p i ops ls fs rs st n (next (state fs′ rs′ st′ n′))
+      returnsLast : {vs : List Value} → rowAt t row .a ≡ opRet → Takes p i ops vs [] → fs ≡ [] → SafeOutcome row id p i ops ls fs rs st n (finished vs (state [] rs st n))
+      stops : {k : ℕ} → SafeOutcome row id p i ops ls fs rs st n (stopped k)
 
-  pub data Safe : Event → Type 0 where
-    safe : {s : State} {row : ℕ} {o : Outcome} → ReadyState s → KeptState s → OwnedState s → ProperOutcome s o → Safe (moment s row o)
-    ends : {before : Base} {s : State} {row : ℕ} {o : Outcome} {after : Base} → EndOf before s o after → Later s after → Safe (ended before s row o after)
+    -- 5. A stopped call leaves the store of its beginning: the same entries, and the same records with the same fields; no other record exists
+    abbrev pub Restored : Base → Base → Type 0
+    Restored (base rs st n) (base rs′ st′ n′) =
+        (st′ ≡ st) × ((id : ℕ) (c : Cell) → nth rs id ≡ some c → nth rs′ id ≡ some c) × ((id y : ℕ) → length rs ≤ id → ¬ (Exists rs′ id y))
+
+    -- how a call ends: finished, with at most four numbers, it leaves what its last step left
+    pub data SafeEnd (before : Base) : Outcome → Base → Type 0 where
+      finishes : {vs : List Value} {rs : List Cell} {st : List Entry} {n : ℕ} → All IsNumber vs → length vs ≤ maxResults → SafeEnd before (finished vs (state [] rs st n)) (base rs st n)
+      restores : {k : ℕ} {after : Base} → Restored before after → SafeEnd before (stopped k) after
+
+    -- no identity of the call is used again; between calls every record that exists is reached from the store
+    pub record Between (rs : List Cell) (st : List Entry) : Type 0 where
+      pub sound : Sound [] rs st
+      pub reached : (id y : ℕ) → Exists rs id y → Reached rs st id
+
+    abbrev pub Later : State → Base → Type 0
+    Later (state fs rs st n) (base rs′ st′ n′) = (length rs ≤ length rs′) × (n ≤ n′) × Between rs′ st′
+
+    pub data Safe : Event → Type 0 where
+      safe : {row id p i : ℕ} {ops : List Value} {ls : List (Option Value)} {fs : List Frame} {rs : List Cell} {st : List Entry} {n : ℕ} {o : Outcome} → SafeState row id p i ops ls fs rs st n
+          → SafeOutcome row id p i ops ls fs rs st n o → Safe (moment (state (frame id p i ops ls ∷ fs) rs st n) row o)
+      ends : {before : Base} {s : State} {row : ℕ} {o : Outcome} {after : Base} → SafeEnd before o after → Later s after → Safe (ended before s row o after)

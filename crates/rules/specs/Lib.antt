@@ -9,5 +9,6 @@ pub mod Run
 pub mod Ownership
 pub mod Words
 pub mod Claim
+pub mod Chain
 pub mod Callable
 pub mod Lengths

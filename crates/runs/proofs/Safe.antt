@@ -1,4 +1,4 @@
--- Demand 3 for what runs: where a run answers a length, the text is that of a history of which every event is safe.
+-- Demand 3 for what runs: where a run answers a length, the text is that of the events of its calls, none left out, and each of them is safe.
 use Prim.Native.Nat.{ℕ}
 use mathlib.Core.Path.{_≡_, refl, sym, ap, _∙_}
 use mathlib.Core.Bool.{Bool, true, false, cond}
@@ -12,18 +12,18 @@ use Rattle.table.specs.Index.{indexOf}
 use Rattle.judging.specs.Judging.{judgeOf}
 use Rattle.judged.specs.Judged.{Bytes}
 use Rattle.rules.specs.Machine.{Entry}
-use Rattle.rules.specs.Calls.{listOf}
+use Rattle.rules.specs.Calls.{listOf, callsOf}
 use Rattle.rules.specs.Text.{textOf}
 use Rattle.rules.specs.Run.{minText, bufferOf, historyOf, answerWith, bufferWith, runOf}
-use Rattle.rules.specs.Claim.{All, Safe}
+use Rattle.rules.specs.Chain.{Claimed}
 use Rattle.rules.proofs.Changes.{clash}
 use Rattle.rules.proofs.Demand3.{demand3}
 
--- what was run: the text stands in the buffer, and every event of the history that it tells is safe
+-- what was run: the text stands in the buffer, and the history that it tells is that of the list's calls, with every event safe
 pub record SafeRun (order : List Entry → List Entry) (t l buffer : List ℕ) (size : ℕ) : Type 0 where
   pub text : (runOf order t l buffer) .buffer ≡ textOf order (historyOf t l) ++ drop size buffer
   pub whole : size ≡ length (textOf order (historyOf t l))
-  pub safe : All (Safe t (indexOf t)) (historyOf t l)
+  pub claimed : Claimed t (indexOf t) (callsOf l) (historyOf t l)
 
 pub run-safe : (order : List Entry → List Entry) (t l buffer : List ℕ) (size : ℕ) → Bytes t → Bytes l → (runOf order t l buffer) .answer ≡ Accepted size → SafeRun order t l buffer size
 unfolding runOf answerWith bufferOf
@@ -34,7 +34,7 @@ run-safe order t l buffer size bt bl e = judged-go (judgeOf t) refl e
 
     short-go : (n k : ℕ) → judgeOf t ≡ Accepted n → listOf t (indexOf t) l ≡ Accepted k → (b : Bool) → cond b (Refused 17 0) (Accepted (length told)) ≡ Accepted size → SafeRun order t l buffer size
     short-go n k j d true q = absurd (clash (cc))
-    short-go n k j d false q = let s : length told ≡ size = cc in record { text = ap (λ (v : Verdict). bufferWith v buffer told) e; whole = sym s; safe = demand3 t l n k bt bl j d }
+    short-go n k j d false q = let s : length told ≡ size = cc in record { text = ap (λ (v : Verdict). bufferWith v buffer told) e; whole = sym s; claimed = demand3 t l n k bt bl j d }
 
     listed-go : (n : ℕ) → judgeOf t ≡ Accepted n → (v : Verdict) → listOf t (indexOf t) l ≡ v → andThen v (cond (ltb (length buffer) minText) (Refused 17 0) (Accepted (length told))) ≡ Accepted size → SafeRun order t l buffer size
     listed-go n j (Accepted k) d q = short-go n k j d (ltb (length buffer) minText) q

@@ -92,7 +92,7 @@ module _ (t : List ℕ) where
       go false e ih = modules-next i ∙ rw (e, count-no (isKind t moduleKind) i e, ih)
 
 -- the row of module o in the index
-pub moduleRow : List ℕ → ℕ → ℕ
+unfoldable pub moduleRow : List ℕ → ℕ → ℕ
 moduleRow t o = getD (entries (isKind t moduleKind) (λ (i : ℕ). i) 0 (indexedRows t) 16) o 0
 
 module _ (t : List ℕ) (fine : (i : ℕ) → i < rowCount t → faultAt t i ≡ 0) where
@@ -106,7 +106,7 @@ module _ (t : List ℕ) (fine : (i : ℕ) → i < rowCount t → faultAt t i ≡
       omega (arith, modules-above t i)
 
   -- the index has the row of a module under its number
-  module-here : (i : ℕ) → i < indexedRows t → isKind t moduleKind i ≡ true → moduleRow t (count (isKind t moduleKind) i) ≡ i
+  pub module-here : (i : ℕ) → i < indexedRows t → isKind t moduleKind i ≡ true → moduleRow t (count (isKind t moduleKind) i) ≡ i
   unfolding moduleRow
   module-here i h e =
       entries-at (isKind t moduleKind) (λ (i : ℕ). i) 0 (indexedRows t) 16 (count (isKind t moduleKind) i) (module-low i (omega arith) e)
