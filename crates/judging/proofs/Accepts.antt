@@ -20,8 +20,8 @@ use Rattle.program.specs.Program.{codePass}
 use Rattle.program.proofs.Passes.{refused-accepted, both-accept, pass-fine, pass-clean}
 use Rattle.names.specs.Names.{namesOf, namesWith}
 use Rattle.operands.specs.Operands.{operandsOf, operandsWith}
-use Rattle.locals.specs.Locals.{localsOf, localsWith}
-use Rattle.leaks.specs.Leaks.{leaksOf, leaksWith}
+use Rattle.locals.specs.Locals.{localsOf}
+use Rattle.leaks.specs.Leaks.{leaksOf}
 use Rattle.judging.specs.Judging.{judgeOf, inOrder, passes, AcceptedTable}
 
 -- what a pass that accepts answers is the number of rows
@@ -51,7 +51,7 @@ module _ (pass : List ℕ → Verdict) (later : List (List ℕ → Verdict)) (t 
 
 -- what acceptance gives: every pass accepts
 pub accepted : (t : List ℕ) (n : ℕ) → judgeOf t ≡ Accepted n → AcceptedTable t
-unfolding judgeOf passes rowsOf namesOf namesWith operandsOf operandsWith localsOf localsWith leaksOf leaksWith
+unfolding judgeOf passes rowsOf namesOf namesWith operandsOf operandsWith localsOf leaksOf
 accepted t n e =
     let e₁ = later-accepts lengthOf (rowsOf ∷ namesOf ∷ operandsOf ∷ localsOf ∷ leaksOf ∷ []) t n e in
     let e₂ = later-accepts rowsOf (namesOf ∷ operandsOf ∷ localsOf ∷ leaksOf ∷ []) t n e₁ in

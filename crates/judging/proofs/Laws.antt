@@ -8,12 +8,15 @@ use Rattle.table.specs.declared.index.Index.{Index}
 use Rattle.table.specs.Verdicts.{andThen}
 use Rattle.table.specs.Index.{indexOf}
 use Rattle.rows.specs.Rows.{lengthOf, rowsOf, formOf}
-use Rattle.program.proofs.Passes.{refused-accepted}
+use Rattle.program.proofs.Passes.{refused-accepted, both-accept}
 use Rattle.names.specs.Names.{namesOf}
 use Rattle.operands.specs.Operands.{operandsOf}
 use Rattle.locals.specs.Locals.{localsOf}
+use Rattle.locals.specs.Within.{localsWithin}
 use Rattle.leaks.specs.Leaks.{leaksOf}
+use Rattle.leaks.specs.Within.{leaksWithin}
 use Rattle.judging.specs.Judging.{inOrder, judgeOf, passes}
+use Rattle.judging.proofs.Sizes.{locals-within, leaks-within}
 
 -- a pass that refuses decides; one that accepts leaves it to the later ones
 pub refused-here : (pass : List ℕ → Verdict) (later : List (List ℕ → Verdict)) (t : List ℕ) {number row : ℕ} → pass t ≡ Refused number row → inOrder (pass ∷ later) t ≡ Refused number row
@@ -44,6 +47,18 @@ module _ (t : List ℕ) where
       go (Accepted m) (Refused x y) q = absurd (refused-accepted q)
       go (Accepted m) (Accepted k) q = refl
 
+  -- the rows pass then accepts, so that the code of the locals and leaks passes passes over no procedure
+  form-rows : {n : ℕ} → formOf t ≡ Accepted n → rowsOf t ≡ Accepted n
+  unfolding formOf
+  form-rows {n} e = both-accept (lengthOf t) (rowsOf t) n e .1
+
 -- a pass with the table's own index
 pub by-index : (pass : Index → List ℕ → Verdict) {t : List ℕ} {ix : Index} {v : Verdict} → ix ≡ indexOf t → v ≡ pass ix t → pass (indexOf t) t ≡ v
 by-index pass {t} e q = sym (q ∙ ap (λ (x : Index). pass x t) e)
+
+module _ (t : List ℕ) {n : ℕ} (form : formOf t ≡ Accepted n) {ix : Index} {v : Verdict} (own : ix ≡ indexOf t) where
+  pub by-locals : v ≡ localsWithin ix t → localsOf t ≡ v
+  by-locals q = sym (locals-within t n (form-rows t form)) ∙ by-index localsWithin own q
+
+  pub by-leaks : v ≡ leaksWithin ix t → leaksOf t ≡ v
+  by-leaks q = sym (leaks-within t n (form-rows t form)) ∙ by-index leaksWithin own q

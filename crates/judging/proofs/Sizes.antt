@@ -25,9 +25,15 @@ use Rattle.table.specs.Procedures.{partOf, rowsBetween}
 use Rattle.table.proofs.Laws.{procedure-parts, procedure-locals, procedure-results, procedure-code}
 use Rattle.rows.specs.declared.Above.{Above}
 use Rattle.rows.specs.Rows.{rowsOf, faultAt, rowFault, misplaced, tooMany, aboveAt, belowRow, countBelow, countOf, owned, limits}
-use Rattle.program.specs.Program.{Sized, localCount, codeOf, procedureIn, overLimits, limited, codePass}
+use Rattle.program.specs.Program.{Sized, localCount, codeOf, procedureIn, codePass}
+use Rattle.program.specs.Limits.{overLimits, limited}
 use Rattle.program.proofs.Laws.{procedure-there, limits-hold, limited-in}
 use Rattle.program.proofs.Passes.{pass-same}
+use Rattle.locals.specs.Locals.{localFault, localsOf}
+use Rattle.locals.specs.Within.{localsWithin}
+use Rattle.steps.specs.Steps.{nothingGiven}
+use Rattle.leaks.specs.Leaks.{leakFault, leaksOf}
+use Rattle.leaks.specs.Within.{leaksWithin}
 
 -- an accepted table has no faulty row
 apart : (n k i : ℕ) → Refused k i ≡ Accepted n → ⊥
@@ -201,10 +207,18 @@ sized t n e = record { locals = locals; instructions = instructions }
             rw (r .0) (omega (arith, few, part-between t (codeStart t (nth (isKind t procedureKind) (indexedRows t) p)) (codeEnd t (nth (isKind t procedureKind) (indexedRows t) p))))
         go (no l) = rw (absent p (omega arith)) (omega (arith, part-between t 0 0))
 
--- So none is over a limit, and the faults of locals and leaks are looked for in every procedure.
+-- So none is over a limit, and what the code of the locals and leaks passes answers is what the passes answer.
 module _ (t : List ℕ) (n : ℕ) (e : rowsOf t ≡ Accepted n) where
   pub none-over : (q : ℕ) → q < indexOf t .procedures → overLimits t (procedureIn (indexOf t) q) ≡ false
   none-over q h = let small = sized t n e in limits-hold t (procedureIn (indexOf t) q) (small .locals q h) (small .instructions q h)
 
   pub none-passed-over : (fault : ProcedureEntry → ℕ → ℕ) → codePass (limited t fault) (indexOf t) t ≡ codePass fault (indexOf t) t
   none-passed-over fault = pass-same (limited t fault) fault t (indexOf t) (λ q h. limited-in t (procedureIn (indexOf t) q) fault (none-over q h))
+
+  pub locals-within : localsWithin (indexOf t) t ≡ localsOf t
+  unfolding localsWithin localsOf
+  locals-within = none-passed-over (localFault t)
+
+  pub leaks-within : leaksWithin (indexOf t) t ≡ leaksOf t
+  unfolding leaksWithin leaksOf
+  leaks-within = none-passed-over (leakFault t (indexOf t) nothingGiven)

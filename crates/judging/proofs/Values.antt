@@ -23,8 +23,8 @@ use Rattle.program.specs.Program.{codeOf, codeVerdict, overProcedures, codePass
 use Rattle.program.proofs.Laws.{procedure-ends}
 use Rattle.names.specs.Names.{namesOf, namesWith}
 use Rattle.operands.specs.Operands.{operandsOf, operandsWith}
-use Rattle.locals.specs.Locals.{localsOf, localsWith}
-use Rattle.leaks.specs.Leaks.{leaksOf, leaksWith}
+use Rattle.locals.specs.Locals.{localsOf}
+use Rattle.leaks.specs.Leaks.{leaksOf}
 use Rattle.judging.specs.Judging.{judgeOf, inOrder, passes}
 use Rattle.judging.proofs.Sizes.{part-between}
 
@@ -84,7 +84,7 @@ rows-value f n h = omega (arith, first-value Refused 0 (λ k j. omega arith) f 0
 
 -- the value of the verdict on any bytes
 pub value-small : (t : List ℕ) → valueOf (judgeOf t) ≤ 2048
-unfolding judgeOf inOrder passes rowsOf namesOf namesWith operandsOf operandsWith localsOf localsWith leaksOf leaksWith
+unfolding judgeOf inOrder passes rowsOf namesOf namesWith operandsOf operandsWith localsOf leaksOf
 value-small t = go (lengthOf t) refl (length-value t)
   where
     later : rowCount t ≤ 2048 → valueOf (inOrder (rowsOf ∷ namesOf ∷ operandsOf ∷ localsOf ∷ leaksOf ∷ []) t) ≤ 2048

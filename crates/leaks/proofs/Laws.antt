@@ -20,7 +20,8 @@ use Rattle.table.specs.declared.Verdict.the-variants.{Accepted}
 use Rattle.table.specs.declared.index.Index.{Index}
 use Rattle.table.specs.declared.index.ProcedureEntry.{ProcedureEntry}
 use Rattle.table.specs.Rows.{rowCount, rowAt}
-use Rattle.program.specs.Program.{codeOf, codeVerdict, localCount, parametersEnd, overLimits, limited}
+use Rattle.program.specs.Program.{codeOf, codeVerdict, localCount, parametersEnd}
+use Rattle.program.specs.Limits.{overLimits, limited}
 use Rattle.program.proofs.Laws.{verdictOf, on-part}
 use Rattle.flow.specs.Steps.{Step, below, nextOf, nexts}
 use Rattle.flow.specs.Places.{nodesOf, succs, reached, within, markMoves, placeMoves, startPlaces, markNodes, operandMarked}

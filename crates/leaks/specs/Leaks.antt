@@ -10,7 +10,7 @@ use Rattle.table.specs.declared.index.ProcedureEntry.{ProcedureEntry}
 use Rattle.table.specs.Format.{opCall, opRet}
 use Rattle.table.specs.Rows.{rowCount, rowAt}
 use Rattle.table.specs.Index.{indexOf}
-use Rattle.program.specs.Program.{codeOf, codePass, limited}
+use Rattle.program.specs.Program.{codeOf, codePass}
 use Rattle.flow.specs.Steps.{Step, nexts}
 use Rattle.flow.specs.Places.{markNodes, operandMarked}
 use Rattle.locals.specs.Locals.{parameterCount}
@@ -49,9 +49,6 @@ module _ (t : List ℕ) (ix : Index) (given : Given) (p : ProcedureEntry) where
   unfoldable pub leakFault : ℕ → ℕ
   leakFault = let nodes = marksOf in λ (i : ℕ). cond (inTrusted t ix p) (leakFrom nodes i) 0
 
--- the leaks pass over a table with a given index, and with its own; nothing is given
-unfoldable pub leaksWith : Index → List ℕ → Verdict
-leaksWith ix t = codePass (limited t (leakFault t ix nothingGiven)) ix t
-
+-- the leaks pass over a table; nothing is given
 unfoldable pub leaksOf : List ℕ → Verdict
-leaksOf t = leaksWith (indexOf t) t
+leaksOf t = codePass (leakFault t (indexOf t) nothingGiven) (indexOf t) t

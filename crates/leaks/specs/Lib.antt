@@ -1,1 +1,2 @@
 pub mod Leaks
+pub mod Within

@@ -6,13 +6,15 @@ ghost use lib.Dec.{eqb};
 ghost use lib.ListN.{length};
 ghost use Rattle.reach.specs.Search.{after, visitAll};
 ghost use Rattle.table.specs.Rows.{rowAt, rowCount};
-ghost use Rattle.program.specs.Program.{codeOf, codeVerdict, limited};
+ghost use Rattle.program.specs.Program.{codeOf, codeVerdict};
+ghost use Rattle.program.specs.Limits.{limited};
 ghost use Rattle.flow.specs.Steps.{nexts};
 ghost use Rattle.flow.specs.Places.{succs, markMoves, within, markNodes, startPlaces};
 ghost use Rattle.spread.specs.Moves.{placesOf};
 ghost use Rattle.locals.specs.Sets.{contains};
 ghost use Rattle.steps.specs.Steps.{viewStep, stepAt, givenBy};
-ghost use Rattle.leaks.specs.Leaks.{someMarked, marksOf, leakFrom, leakIn, leaksWith, stepsOf};
+ghost use Rattle.leaks.specs.Leaks.{someMarked, marksOf, leakFrom, leakIn, stepsOf};
+ghost use Rattle.leaks.specs.Within.{leaksWithin};
 use locals::LocalSet;
 use spread::Moves;
 use steps::Shape;
@@ -297,7 +299,7 @@ fn is_trusted(table: &[u8], row: u16) -> bool
 
 // The leaks pass over a table with a given index.
 pub fn leaks_with(table: &[u8], index: Index) -> Verdict
-    ensures { λ r. ⌜ r ≡ leaksWith index (now (table .entry)) ⌝ }
+    ensures { λ r. ⌜ r ≡ leaksWithin index (now (table .entry)) ⌝ }
 {
     let rows = table.len() / format::ROW_BYTES;
     let results = [false; 512];

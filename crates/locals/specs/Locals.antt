@@ -6,12 +6,11 @@ use lib.Dec.{eqb, ltb}
 use lib.ListN.{getD}
 use Rattle.table.specs.declared.Row.{Row}
 use Rattle.table.specs.declared.Verdict.{Verdict}
-use Rattle.table.specs.declared.index.Index.{Index}
 use Rattle.table.specs.declared.index.ProcedureEntry.{ProcedureEntry}
 use Rattle.table.specs.Format.{opMvLoc, opCpLoc, opStLoc, opBorrowLoc, opRet}
 use Rattle.table.specs.Rows.{rowCount, rowAt}
 use Rattle.table.specs.Index.{indexOf}
-use Rattle.program.specs.Program.{codeOf, codePass, limited, localCount, localKind, parametersEnd, isRecord}
+use Rattle.program.specs.Program.{codeOf, codePass, localCount, localKind, parametersEnd, isRecord}
 use Rattle.flow.specs.Steps.{Step, nexts}
 use Rattle.flow.specs.Places.{localNodes, canBeEmpty, canBeFull}
 use Rattle.locals.specs.declared.LocalSet.{LocalSet}
@@ -57,12 +56,9 @@ module _ (t : List ℕ) (p : ProcedureEntry) where
       (cond (eqb (rowAt (codeOf t p) i .a) opStLoc && leavesRecord (rowAt (codeOf t p) i .b) i) 12
       (cond (eqb (rowAt (codeOf t p) i .a) opRet && leavesSome (localCount p) i) 12 0))
 
--- the locals pass over a table with a given index, and with its own
-unfoldable pub localsWith : Index → List ℕ → Verdict
-localsWith ix t = codePass (limited t (localFault t)) ix t
-
+-- the locals pass over a table
 unfoldable pub localsOf : List ℕ → Verdict
-localsOf t = localsWith (indexOf t) t
+localsOf t = codePass (localFault t) (indexOf t) t
 
 -- The same fault, from the nodes of all locals in one list, local l's at 2 n l, and the set of the locals that are records.
 unfoldable pub faultFrom : List Bool → Row → ℕ → ℕ → LocalSet → ℕ → ℕ

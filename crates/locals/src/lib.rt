@@ -6,11 +6,13 @@ ghost use lib.Dec.{eqb};
 ghost use lib.ListN.{length, getD, take, drop};
 ghost use Rattle.reach.specs.Search.{after, visitAll};
 ghost use Rattle.table.specs.Rows.{rowAt, rowCount};
-ghost use Rattle.program.specs.Program.{isRecord, localKind, codeOf, codeVerdict, limited};
+ghost use Rattle.program.specs.Program.{isRecord, localKind, codeOf, codeVerdict};
+ghost use Rattle.program.specs.Limits.{limited};
 ghost use Rattle.flow.specs.Steps.{nexts};
 ghost use Rattle.flow.specs.Places.{succs, localMoves, startStatus};
 ghost use Rattle.locals.specs.Sets.{inserted, contains, meets, those};
-ghost use Rattle.locals.specs.Locals.{bareStep, parameterCount, needsFull, nodesOf, localFault, localsWith, faultFrom};
+ghost use Rattle.locals.specs.Locals.{bareStep, parameterCount, needsFull, nodesOf, localFault, faultFrom};
+ghost use Rattle.locals.specs.Within.{localsWithin};
 use spread::Moves;
 use table::Row;
 use table::Verdict;
@@ -318,7 +320,7 @@ fn judge_procedure(
 
 // The locals pass over a table with a given index.
 pub fn locals_with(table: &[u8], index: Index) -> Verdict
-    ensures { λ r. ⌜ r ≡ localsWith index (now (table .entry)) ⌝ }
+    ensures { λ r. ⌜ r ≡ localsWithin index (now (table .entry)) ⌝ }
 {
     let rows = table.len() / format::ROW_BYTES;
     let mut nodes = [false; 8192];

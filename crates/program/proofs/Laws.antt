@@ -24,7 +24,8 @@ use Rattle.table.specs.Rows.{rowAt, rowCount, isKind}
 use Rattle.table.specs.Verdicts.{andThen}
 use Rattle.table.specs.Index.{noProcedure, indexOf, indexedRows, procedureAt}
 use Rattle.table.proofs.Laws.{procedure-within}
-use Rattle.program.specs.Program.{isParameter, codeOf, codeVerdict, overProcedures, codePass, procedureIn, targetBelow, jumpsTo, localCount, overLimits, limited}
+use Rattle.program.specs.Program.{isParameter, codeOf, codeVerdict, overProcedures, codePass, procedureIn, targetBelow, jumpsTo, localCount}
+use Rattle.program.specs.Limits.{overLimits, limited}
 
 module _ (t : List ℕ) (i : ℕ) (r : Row) (e : r ≡ rowAt t i) where
   pub parameter-yes : r .c ≡ 1 → not (isParameter t i) ≡ false

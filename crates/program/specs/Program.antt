@@ -117,14 +117,6 @@ overProcedures fault t (p ∷ ps) = andThen (codeVerdict (fault p) (p .code) (ro
 unfoldable pub codePass : (ProcedureEntry → ℕ → ℕ) → Index → List ℕ → Verdict
 codePass fault ix t = overProcedures fault t (take (ix .procedures) (ix .«procedure_entries»))
 
--- a procedure over the limit on locals or on instructions: the rows pass refuses its table
-unfoldable pub overLimits : List ℕ → ProcedureEntry → Bool
-overLimits t p = ltb maxLocals (localCount p) || ltb maxInstructions (rowCount (codeOf t p))
-
--- faults that are looked for in the other procedures only
-unfoldable pub limited : List ℕ → (ProcedureEntry → ℕ → ℕ) → ProcedureEntry → ℕ → ℕ
-limited t fault p = cond (overLimits t p) (λ (i : ℕ). 0) (fault p)
-
 -- Jumps: whether some one of the first n instructions of the code c jumps to instruction j, by Branch or BranchCond, reached or not
 unfoldable pub jumpsTo : Row → ℕ → Bool
 jumpsTo row j = (eqb (row .a) opBranch || eqb (row .a) opBranchCond) && eqb (row .b) j

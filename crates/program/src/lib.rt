@@ -1,6 +1,7 @@
 // What a table declares, read through its index.
 ghost use mathlib.Core.Path.{_≡_};
-ghost use Rattle.program.specs.Program.{rowKind, localCount, parametersEnd, overLimits};
+ghost use Rattle.program.specs.Program.{rowKind, localCount, parametersEnd};
+ghost use Rattle.program.specs.Limits.{overLimits};
 use table::Row;
 use table::format;
 use table::index::ProcedureEntry;

@@ -28,14 +28,14 @@ use Rattle.flow.specs.Places.{statusAfter, localMoves, localNodes, canBeEmpty, 
 use Rattle.flow.specs.Paths.{Shallow}
 use Rattle.flow.proofs.Locals.{empty-found, full-found}
 use Rattle.flow.proofs.Marks.{operand-mark-found, no-local-mark, no-operand-mark}
-use Rattle.locals.specs.Locals.{parameterCount, needsFull, nodesOf, leavesEmpty, leavesFull, leavesRecord, leavesSome, localFault, localsWith, localsOf}
+use Rattle.locals.specs.Locals.{parameterCount, needsFull, nodesOf, leavesEmpty, leavesFull, leavesRecord, leavesSome, localFault, localsOf}
 use Rattle.steps.specs.Steps.{Given, nothingGiven, stepOf, stepAt}
-use Rattle.leaks.specs.Leaks.{inTrusted, someMarked, leakIn, marksOf, leakFrom, leakFault, leaksWith, leaksOf}
+use Rattle.leaks.specs.Leaks.{inTrusted, someMarked, leakIn, marksOf, leakFrom, leakFault, leaksOf}
 use Rattle.table.specs.declared.Verdict.the-variants.{Accepted}
 use Rattle.judging.specs.Judging.{AcceptedTable, judgeOf}
 use Rattle.judging.proofs.Accepts.{accepted}
 use Rattle.walks.specs.Checked.{WalkOf, Checked}
-use Rattle.judging.proofs.Sizes.{sized, none-passed-over}
+use Rattle.judging.proofs.Sizes.{sized}
 use Rattle.walks.proofs.Regular.{regular}
 use Rattle.walks.proofs.Follow.{nextBelow}
 use Rattle.walks.proofs.Depth.{Deep, deep, shallow}
@@ -168,13 +168,13 @@ module _ (t : List ℕ) (a : AcceptedTable t) (q : ℕ) (there : q < indexOf t .
 
   -- its instructions have no fault of locals
   local-fine : (i : ℕ) → i < rowCount (codeOf t (own t q)) → localFault t (own t q) i ≡ 0
-  unfolding localsOf localsWith
-  local-fine = pass-fine (localFault t) (indexOf t) t (rowCount t) (sym (none-passed-over t (rowCount t) (a .byRows) (localFault t)) ∙ a .byLocals) q there entries-long
+  unfolding localsOf
+  local-fine = pass-fine (localFault t) (indexOf t) t (rowCount t) (a .byLocals) q there entries-long
 
   -- and none of leaks
   leak-fine : (i : ℕ) → i < rowCount (codeOf t (own t q)) → leakFault t (indexOf t) nothingGiven (own t q) i ≡ 0
-  unfolding leaksOf leaksWith
-  leak-fine = pass-fine (leakFault t (indexOf t) nothingGiven) (indexOf t) t (rowCount t) (sym (none-passed-over t (rowCount t) (a .byRows) (leakFault t (indexOf t) nothingGiven)) ∙ a .byLeaks) q there entries-long
+  unfolding leaksOf
+  leak-fine = pass-fine (leakFault t (indexOf t) nothingGiven) (indexOf t) t (rowCount t) (a .byLeaks) q there entries-long
 
   -- it has instructions
   some : 0 < rowCount (codeOf t (own t q))

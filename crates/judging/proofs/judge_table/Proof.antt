@@ -1,19 +1,25 @@
 -- Each pass that accepts leaves the judgement to the later ones; one that refuses decides it.
 use mathlib.Core.Path.{_≡_, sym, _∙_}
 use mathlib.Core.List.{[], _∷_}
+use Rattle.table.specs.declared.Verdict.the-variants.{Accepted}
+use Rattle.rows.specs.Rows.{formOf}
 use Rattle.names.specs.Names.{namesOf, namesWith}
 use Rattle.operands.specs.Operands.{operandsOf, operandsWith}
-use Rattle.locals.specs.Locals.{localsOf, localsWith}
-use Rattle.leaks.specs.Leaks.{leaksOf, leaksWith}
+use Rattle.locals.specs.Locals.{localsOf}
+use Rattle.leaks.specs.Leaks.{leaksOf}
 use Rattle.judging.specs.Judging.{judgeOf, inOrder}
-use Rattle.judging.proofs.Laws.{refused-here, accepted-here, form-refused, form-accepted, by-index}
+use Rattle.judging.proofs.Laws.{refused-here, accepted-here, form-refused, form-accepted, by-index, by-locals, by-leaks}
 use borrow.Author.Needs.{needs}
 use Rattle.judging.proofs.judge_table.Statement.{statement}
 use Rattle.judging.proofs.judge_table.Tie as tie
 
+-- length and rows accept
+form-fine : (c : tie.After-enum-told) → formOf (c .before .before .before .before .args .table .now) ≡ Accepted (c .enum-told .given .0 .0)
+form-fine c = sym (c .before .before .form-pass .ensures) ∙ c .enum-told .given .1
+
 -- what is left of the judgement after each pass that accepts
 after-form : (c : tie.After-enum-told) → judgeOf (c .before .before .before .before .args .table .now) ≡ inOrder (namesOf ∷ operandsOf ∷ localsOf ∷ leaksOf ∷ []) (c .before .before .before .before .args .table .now)
-after-form c = form-accepted (c .before .before .before .before .args .table .now) (sym (c .before .before .form-pass .ensures) ∙ c .enum-told .given .1)
+after-form c = form-accepted (c .before .before .before .before .args .table .now) (form-fine c)
 
 after-names : (c : tie.After-enum-told2) → judgeOf (c .before .before .before .before .before .before .before .before .args .table .now) ≡ inOrder (operandsOf ∷ localsOf ∷ leaksOf ∷ []) (c .before .before .before .before .before .before .before .before .args .table .now)
 unfolding namesOf
@@ -24,12 +30,10 @@ unfolding operandsOf
 after-operands c = after-names (c .before .before .before) ∙ accepted-here operandsOf (localsOf ∷ leaksOf ∷ []) (c .before .before .before .before .before .before .before .before .before .before .before .args .table .now) (by-index operandsWith (c .before .before .before .before .before .before .index-of .ensures) (c .before .before .operands-with .ensures) ∙ c .enum-told3 .given .1)
 
 after-locals : (c : tie.After-enum-told4) → judgeOf (c .before .before .before .before .before .before .before .before .before .before .before .before .before .before .args .table .now) ≡ inOrder (leaksOf ∷ []) (c .before .before .before .before .before .before .before .before .before .before .before .before .before .before .args .table .now)
-unfolding localsOf
-after-locals c = after-operands (c .before .before .before) ∙ accepted-here localsOf (leaksOf ∷ []) (c .before .before .before .before .before .before .before .before .before .before .before .before .before .before .args .table .now) (by-index localsWith (c .before .before .before .before .before .before .before .before .before .index-of .ensures) (c .before .before .locals-with .ensures) ∙ c .enum-told4 .given .1)
+after-locals c = after-operands (c .before .before .before) ∙ accepted-here localsOf (leaksOf ∷ []) (c .before .before .before .before .before .before .before .before .before .before .before .before .before .before .args .table .now) (by-locals _ (form-fine (c .before .before .before .before .before .before .before .before .before .before)) (c .before .before .before .before .before .before .before .before .before .index-of .ensures) (c .before .before .locals-with .ensures) ∙ c .enum-told4 .given .1)
 
 after-leaks : (c : tie.After-enum-told5) → judgeOf (c .before .before .before .before .before .before .before .before .before .before .before .before .before .before .before .before .before .args .table .now) ≡ inOrder [] (c .before .before .before .before .before .before .before .before .before .before .before .before .before .before .before .before .before .args .table .now)
-unfolding leaksOf
-after-leaks c = after-locals (c .before .before .before) ∙ accepted-here leaksOf [] (c .before .before .before .before .before .before .before .before .before .before .before .before .before .before .before .before .before .args .table .now) (by-index leaksWith (c .before .before .before .before .before .before .before .before .before .before .before .before .index-of .ensures) (c .before .before .leaks-with .ensures) ∙ c .enum-told5 .given .1)
+after-leaks c = after-locals (c .before .before .before) ∙ accepted-here leaksOf [] (c .before .before .before .before .before .before .before .before .before .before .before .before .before .before .before .before .before .args .table .now) (by-leaks _ (form-fine (c .before .before .before .before .before .before .before .before .before .before .before .before .before)) (c .before .before .before .before .before .before .before .before .before .before .before .before .index-of .ensures) (c .before .before .leaks-with .ensures) ∙ c .enum-told5 .given .1)
 
 form-pass-requires : tie.Need-form-pass-requires
 form-pass-requires c κs = search needs
@@ -79,8 +83,7 @@ enum-known-locals : tie.Need-enum-known-locals
 enum-known-locals c = search needs
 
 returns-4 : tie.Need-returns-4
-unfolding localsOf
-returns-4 c = sym (after-operands (c .before .before .before .before) ∙ refused-here localsOf _ _ (by-index localsWith (c .before .before .before .before .before .before .before .before .before .before .index-of .ensures) (c .before .before .before .locals-with .ensures) ∙ c .before .locals .given .1))
+returns-4 c = sym (after-operands (c .before .before .before .before) ∙ refused-here localsOf _ _ (by-locals _ (form-fine (c .before .before .before .before .before .before .before .before .before .before .before)) (c .before .before .before .before .before .before .before .before .before .before .index-of .ensures) (c .before .before .before .locals-with .ensures) ∙ c .before .locals .given .1))
 
 enum-told-4 : tie.Need-enum-told-4
 enum-told-4 c = search needs
@@ -92,8 +95,7 @@ enum-known-leaks : tie.Need-enum-known-leaks
 enum-known-leaks c = search needs
 
 returns-5 : tie.Need-returns-5
-unfolding leaksOf
-returns-5 c = sym (after-locals (c .before .before .before .before) ∙ refused-here leaksOf _ _ (by-index leaksWith (c .before .before .before .before .before .before .before .before .before .before .before .before .before .index-of .ensures) (c .before .before .before .leaks-with .ensures) ∙ c .before .leaks .given .1))
+returns-5 c = sym (after-locals (c .before .before .before .before) ∙ refused-here leaksOf _ _ (by-leaks _ (form-fine (c .before .before .before .before .before .before .before .before .before .before .before .before .before .before)) (c .before .before .before .before .before .before .before .before .before .before .before .before .before .index-of .ensures) (c .before .before .before .leaks-with .ensures) ∙ c .before .leaks .given .1))
 
 enum-told-5 : tie.Need-enum-told-5
 enum-told-5 c = search needs

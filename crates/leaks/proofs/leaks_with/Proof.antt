@@ -6,23 +6,25 @@ use mathlib.Core.Bool.{false}
 use native.Mathlib.Omega.{arith}
 use borrow.Author.Needs.{needs}
 use lib.ListN.{length, getD, replicate, length-map, List·getD-eq-default}
-use Rattle.program.specs.Program.{codeOf, limited, procedureIn}
+use Rattle.program.specs.Program.{codeOf, procedureIn}
+use Rattle.program.specs.Limits.{limited}
 use Rattle.program.proofs.Laws.{passFrom, pass-start, pass-end, pass-refused, pass-on, passes-past, passes-all, passes-at, passes-entry}
 use Rattle.steps.specs.Steps.{nothingGiven}
-use Rattle.leaks.specs.Leaks.{inTrusted, leakFault, leaksWith}
+use Rattle.leaks.specs.Leaks.{inTrusted, leakFault}
+use Rattle.leaks.specs.Within.{leaksWithin}
 use Rattle.leaks.proofs.Laws.{trusted-verdict, guest-verdict}
 use Rattle.leaks.proofs.leaks_with.Statement.{statement}
 use Rattle.leaks.proofs.leaks_with.Tie as tie
 
 abbrev Inv-loop : tie.InvT-loop
 Inv-loop table index rows results nodes₀ queue₀ p₀ nodes queue p =
-    (p ≤ 128) × (leaksWith index table ≡ passFrom (limited table (leakFault table index nothingGiven)) index table p) × (results ≡ replicate 512 false) × (length nodes ≡ 8448) × (length queue ≡ 8448)
+    (p ≤ 128) × (leaksWithin index table ≡ passFrom (limited table (leakFault table index nothingGiven)) index table p) × (results ≡ replicate 512 false) × (length nodes ≡ 8448) × (length queue ≡ 8448)
 
 abbrev μ-loop : tie.MeasureT-loop
 μ-loop table index rows results nodes₀ queue₀ p₀ nodes queue p = 128 - p
 
 loop-holds : tie.Need-loop-holds Inv-loop μ-loop
-unfolding leaksWith
+unfolding leaksWithin
 loop-holds c = (omega arith, pass-start _ _ _, refl, refl, refl)
 
 -- the index has room for 16 modules and 128 procedures

@@ -1,7 +1,9 @@
 -- The invariant: the procedures before procedure p are accepted.
-use Rattle.locals.specs.Locals.{localsWith, localFault}
+use Rattle.locals.specs.Locals.{localFault}
+use Rattle.locals.specs.Within.{localsWithin}
 use Rattle.program.proofs.Laws.{passFrom, pass-start, pass-end, pass-refused, pass-on, passes-past, passes-all, passes-at, passes-entry, on-part}
-use Rattle.program.specs.Program.{codeOf, limited, procedureIn}
+use Rattle.program.specs.Program.{codeOf, procedureIn}
+use Rattle.program.specs.Limits.{limited}
 use lib.ListN.{length, length-map}
 use Prim.Native.Nat.{_-_, _≤_}
 use mathlib.Core.Path.{_≡_, refl, sym, _∙_}
@@ -12,13 +14,13 @@ use Rattle.locals.proofs.locals_with.Tie as tie
 
 abbrev Inv-loop : tie.InvT-loop
 Inv-loop table index rows nodes₀ queue₀ p₀ nodes queue p =
-    (p ≤ 128) × (localsWith index table ≡ passFrom (limited table (localFault table)) index table p) × (length nodes ≡ 8192) × (length queue ≡ 512)
+    (p ≤ 128) × (localsWithin index table ≡ passFrom (limited table (localFault table)) index table p) × (length nodes ≡ 8192) × (length queue ≡ 512)
 
 abbrev μ-loop : tie.MeasureT-loop
 μ-loop table index rows nodes₀ queue₀ p₀ nodes queue p = 128 - p
 
 loop-holds : tie.Need-loop-holds Inv-loop μ-loop
-unfolding localsWith
+unfolding localsWithin
 loop-holds c = (omega arith, pass-start _ _ _, refl, refl)
 
 -- the index has room for 128 procedures

@@ -1,6 +1,7 @@
 use borrow.Author.Needs.{needs}
 use borrow.Author.Tests.{lt-ltb, le-ltb}
-use Rattle.program.specs.Program.{overLimits, codeOf}
+use Rattle.program.specs.Program.{codeOf}
+use Rattle.program.specs.Limits.{overLimits}
 use Rattle.program.proofs.over_limits.Statement.{statement}
 use Rattle.program.proofs.over_limits.Tie as tie
 
