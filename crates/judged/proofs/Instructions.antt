@@ -24,9 +24,11 @@ use Rattle.names.proofs.Exist.{names-good}
 use Rattle.flow.specs.Steps.{below, nextOf, nexts}
 use Rattle.judging.specs.Judging.{AcceptedTable}
 use Rattle.judging.proofs.Sizes.{rows-fine}
+use Rattle.judging.proofs.Accepts.{up-to-operands}
 use Rattle.walks.proofs.Rows.{own, rowOf, row-below, entry-is, row-kind, row-count, parts, code-count, code-row, code-named}
 use Rattle.walks.proofs.Follow.{nextBelow, kinds-follow}
-use Rattle.walks.proofs.Walks.{flow-at, checked}
+use Rattle.walks.proofs.Shown.{flow-at}
+use Rattle.walks.proofs.Walks.{checked}
 use Rattle.judged.specs.Judged.{Bytes, Instruction}
 use Rattle.judged.proofs.Counts.{row-opcode, row-op}
 use Rattle.judged.proofs.Procedures.{few}
@@ -211,7 +213,7 @@ module _ (t : List ℕ) (a : AcceptedTable t) (q : ℕ) (known : q < indexOf t .
 -- instruction i of procedure q of an accepted table
 pub instruction : (t : List ℕ) → AcceptedTable t → Bytes t → (q i : ℕ) → q < indexOf t .procedures → i < rowCount (codeOf t (own t q)) → Instruction t (indexOf t) q i
 instruction t a bytes q i known h =
-    let f = flow-at t a q known (few t a q known) i h in
+    let f = flow-at t (up-to-operands a) q known (few t a q known) i h in
     record {
       opcode = opcode-is t a q known i h;
       constant = constant-is t a q known i h bytes;

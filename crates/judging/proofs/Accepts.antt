@@ -22,10 +22,10 @@ use Rattle.names.specs.Names.{namesOf, namesWith}
 use Rattle.operands.specs.Operands.{operandsOf, operandsWith}
 use Rattle.locals.specs.Locals.{localsOf}
 use Rattle.leaks.specs.Leaks.{leaksOf}
-use Rattle.judging.specs.Judging.{judgeOf, inOrder, passes, AcceptedTable}
+use Rattle.judging.specs.Judging.{judgeOf, inOrder, passes, AcceptedTable, UpToOperands}
 
 -- what a pass that accepts answers is the number of rows
-length-rows : (t : List ℕ) (n : ℕ) → lengthOf t ≡ Accepted n → lengthOf t ≡ Accepted (rowCount t)
+pub length-rows : (t : List ℕ) (n : ℕ) → lengthOf t ≡ Accepted n → lengthOf t ≡ Accepted (rowCount t)
 unfolding lengthOf
 length-rows t n e = go (eqb (length t) 0 || not (eqb (length t % 16) 0) || ltb 32768 (length t)) refl
   where
@@ -33,10 +33,10 @@ length-rows t n e = go (eqb (length t) 0 || not (eqb (length t % 16) 0) || ltb 3
     go true q = absurd (refused-accepted (rw q at e))
     go false q = rw q
 
-over-rows : (f : ℕ → ℕ) (k n : ℕ) → passOver f k ≡ Accepted n → passOver f k ≡ Accepted k
+pub over-rows : (f : ℕ → ℕ) (k n : ℕ) → passOver f k ≡ Accepted n → passOver f k ≡ Accepted k
 over-rows f k n e = clean-if Accepted Refused f 0 k (λ j lo hi. all-fine Accepted Refused f (λ n k i q. refused-accepted q) n 0 k e j lo hi) ∙ ap Accepted (zero-add k)
 
-code-rows : (fault : ProcedureEntry → ℕ → ℕ) (ix : Index) (t : List ℕ) (n : ℕ) → codePass fault ix t ≡ Accepted n → codePass fault ix t ≡ Accepted (rowCount t)
+pub code-rows : (fault : ProcedureEntry → ℕ → ℕ) (ix : Index) (t : List ℕ) (n : ℕ) → codePass fault ix t ≡ Accepted n → codePass fault ix t ≡ Accepted (rowCount t)
 code-rows fault ix t n e = pass-clean fault ix t (λ q i a b c. pass-fine fault ix t n e q a b i c)
 
 -- the first of two in order that accept together
@@ -66,6 +66,10 @@ accepted t n e =
       byLocals = code-rows _ (indexOf t) t _ (here-accepts localsOf (leaksOf ∷ []) t n e₄);
       byLeaks = code-rows _ (indexOf t) t _ (here-accepts leaksOf [] t n e₅);
     }
+
+-- so the passes before locals do
+pub up-to-operands : {t : List ℕ} → AcceptedTable t → UpToOperands t
+up-to-operands a = record { byLength = a .byLength; byRows = a .byRows; byNames = a .byNames; byOperands = a .byOperands }
 
 -- and the converse: what every pass accepts is accepted, with its number of rows
 pub accepting : (t : List ℕ) → AcceptedTable t → judgeOf t ≡ Accepted (rowCount t)

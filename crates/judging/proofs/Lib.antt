@@ -2,3 +2,4 @@ pub mod Sizes
 pub mod Laws
 pub mod Values
 pub mod Accepts
+pub mod Numbers

@@ -180,6 +180,11 @@ module _ (t : List ℕ) (fine : (i : ℕ) → i < rowCount t → faultAt t i ≡
           absurd (omega (arith, up, low, code-none))
       go (no l) = omega arith
 
+-- an index has no procedure past 127
+pub absent : (t : List ℕ) (p : ℕ) → 128 ≤ p → procedureIn (indexOf t) p ≡ noProcedure
+unfolding indexOf procedureIn
+absent t p h = List·getD-eq-default (indexOf t .«procedure_entries») noProcedure (rw (length-entries (isKind t procedureKind) (procedureAt t) noProcedure (indexedRows t) 128) h)
+
 -- In a table that the rows pass accepts every procedure of its index is of such a size.
 pub sized : (t : List ℕ) (n : ℕ) → rowsOf t ≡ Accepted n → Sized t (indexOf t)
 unfolding localCount codeOf procedureAt isKind count indexOf procedureIn
@@ -188,15 +193,12 @@ sized t n e = record { locals = locals; instructions = instructions }
     kind : (p : ℕ) → p < indexOf t .procedures → procedureKind ≡ kindAt t (nth (isKind t procedureKind) (indexedRows t) p)
     kind p h = sym (eqb-true (kindAt t (nth (isKind t procedureKind) (indexedRows t) p)) procedureKind (nth-hit (isKind t procedureKind) (indexedRows t) p h))
 
-    absent : (p : ℕ) → 128 ≤ p → procedureIn (indexOf t) p ≡ noProcedure
-    absent p h = List·getD-eq-default (indexOf t .«procedure_entries») noProcedure (rw (length-entries (isKind t procedureKind) (procedureAt t) noProcedure (indexedRows t) 128) h)
-
     locals : (p : ℕ) → p < indexOf t .procedures → localCount (procedureIn (indexOf t) p) ≤ 16
     locals p h = go (decLt p 128)
       where
         go : Dec (p < 128) → localCount (procedureIn (indexOf t) p) ≤ 16
         go (yes l) = let r = procedure-there t p h l in rw (r .0) (few-locals t (rows-fine t n e) (nth (isKind t procedureKind) (indexedRows t) p) (r .1) (kind p h))
-        go (no l) = rw (absent p (omega arith)) (omega arith)
+        go (no l) = rw (absent t p (omega arith)) (omega arith)
 
     instructions : (p : ℕ) → p < indexOf t .procedures → rowCount (codeOf t (procedureIn (indexOf t) p)) ≤ 256
     instructions p h = go (decLt p 128)
@@ -205,7 +207,7 @@ sized t n e = record { locals = locals; instructions = instructions }
         go (yes l) = let r = procedure-there t p h l in
             let few = few-code t (rows-fine t n e) (nth (isKind t procedureKind) (indexedRows t) p) (r .1) (kind p h) in
             rw (r .0) (omega (arith, few, part-between t (codeStart t (nth (isKind t procedureKind) (indexedRows t) p)) (codeEnd t (nth (isKind t procedureKind) (indexedRows t) p))))
-        go (no l) = rw (absent p (omega arith)) (omega (arith, part-between t 0 0))
+        go (no l) = rw (absent t p (omega arith)) (omega (arith, part-between t 0 0))
 
 -- So none is over a limit, and what the code of the locals and leaks passes answers is what the passes answer.
 module _ (t : List ℕ) (n : ℕ) (e : rowsOf t ≡ Accepted n) where

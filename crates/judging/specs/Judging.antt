@@ -36,3 +36,10 @@ pub record AcceptedTable (t : List ℕ) : Type 0 where
   pub byOperands : operandsOf t ≡ Accepted (rowCount t)
   pub byLocals : localsOf t ≡ Accepted (rowCount t)
   pub byLeaks : leaksOf t ≡ Accepted (rowCount t)
+
+-- a table that the passes before locals accept: length, rows, names and operands
+pub record UpToOperands (t : List ℕ) : Type 0 where
+  pub byLength : lengthOf t ≡ Accepted (rowCount t)
+  pub byRows : rowsOf t ≡ Accepted (rowCount t)
+  pub byNames : namesOf t ≡ Accepted (rowCount t)
+  pub byOperands : operandsOf t ≡ Accepted (rowCount t)

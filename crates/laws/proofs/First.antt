@@ -1,6 +1,7 @@
 -- Laws of a pass that stops at its first faulty row, for any answer type and any fault function.
 use Prim.Native.Nat.{ℕ, suc, zero, _+_, _-_, _<_, _≤_}
 use mathlib.Core.Path.{_≡_, refl, sym, _∙_}
+use mathlib.Core.Logic.{_⊎_, inl, inr}
 use native.Mathlib.Nat.{sub-self, sub-zero, add-zero}
 use native.Mathlib.Decide.{decLt}
 use native.Mathlib.Omega.{arith}
@@ -53,3 +54,35 @@ clean-if clean bad f i (suc left) h =
     let e : f i ≡ 0 = h i (omega arith) (omega arith) in
     let s : i + suc left ≡ i + 1 + left = omega arith in
     rw (e, s) (clean-if clean bad f (i + 1) left (λ j lo hi. h j (omega arith) (omega arith)))
+
+-- a pass is clean, or it stops at its first faulty row
+module _ {A : Type 0} (clean : ℕ → A) (bad : ℕ → ℕ → A) (f : ℕ → ℕ) where
+  pub record Stops (i left : ℕ) : Type 0 where
+    pub at : ℕ
+    pub from : i ≤ at
+    pub inside : at < i + left
+    pub faulty : f at ≡ 0 → ⊥
+    pub before : (j : ℕ) → i ≤ j → j < at → f j ≡ 0
+    pub told : firstFault clean bad f i left ≡ bad (f at) at
+
+  pub clean-or-stops : (i left : ℕ) → (firstFault clean bad f i left ≡ clean (i + left)) ⊎ Stops i left
+  unfolding firstFault
+  clean-or-stops i zero = inl (rw add-zero refl)
+  clean-or-stops i (suc left) = go (f i) refl (clean-or-stops (i + 1) left)
+    where
+      go : (k : ℕ) → f i ≡ k → (firstFault clean bad f (i + 1) left ≡ clean (i + 1 + left)) ⊎ Stops (i + 1) left
+          → (firstFault clean bad f i (suc left) ≡ clean (i + suc left)) ⊎ Stops i (suc left)
+      go (suc k) q rest = inr (record { at = i; from = omega arith; inside = omega arith; faulty = λ z. omega (arith, q, z); before = λ j lo hi. absurd (omega arith); told = rw q })
+      go zero q (inl e) = let s : i + suc left ≡ i + 1 + left = omega arith in inl (rw (q, s) e)
+      go zero q (inr s) = inr (record {
+        at = s .at;
+        from = omega (arith, s .from);
+        inside = omega (arith, s .inside);
+        faulty = s .faulty;
+        before = λ j lo hi. before-here s j lo hi (decLt i j);
+        told = rw q (s .told);
+      })
+        where
+          before-here : (s : Stops (i + 1) left) (j : ℕ) → i ≤ j → j < s .at → Dec (i < j) → f j ≡ 0
+          before-here s j lo hi (yes h) = s .before j (omega arith) hi
+          before-here s j lo hi (no h) = let e : j ≡ i = omega arith in rw e q

@@ -1,18 +1,19 @@
--- A pass over procedures accepts a table if, and only if, no instruction of a procedure is faulty.
+-- A pass over procedures accepts a table if, and only if, no instruction of a procedure is faulty; else it tells the first one.
 use Prim.Native.Nat.{ℕ, zero, suc, _+_, _<_}
-use mathlib.Core.Path.{_≡_, refl, ap₂}
+use mathlib.Core.Path.{_≡_, refl, sym, ap, ap₂}
 use mathlib.Core.Bool.{Bool, true, false, cond}
 use mathlib.Core.List.{List, [], _∷_}
+use mathlib.Core.Logic.{_⊎_, inl, inr, ⊎-elim}
 use native.Mathlib.Omega.{arith}
 use lib.ListN.{length, getD, length-take}
 use lib.Seq.{getD-take}
-use Rattle.laws.proofs.First.{all-fine, clean-if}
+use Rattle.laws.proofs.First.{all-fine, clean-if, clean-or-stops}
 use Rattle.table.specs.declared.Verdict.{Verdict}
 use Rattle.table.specs.declared.Verdict.the-variants.{Accepted, Refused}
 use Rattle.table.specs.declared.index.Index.{Index}
 use Rattle.table.specs.declared.index.ProcedureEntry.{ProcedureEntry}
 use Rattle.table.specs.Rows.{rowCount}
-use Rattle.table.specs.Verdicts.{valueOf, andThen}
+use Rattle.table.specs.Verdicts.{numberOf, valueOf, andThen}
 use Rattle.table.specs.Index.{noProcedure}
 use Rattle.program.specs.Program.{codeOf, codeVerdict, overProcedures, codePass, procedureIn}
 use Rattle.program.proofs.Laws.{proceduresOf}
@@ -83,3 +84,78 @@ module _ (f g : ProcedureEntry → ℕ → ℕ) (t : List ℕ) where
   pass-same ix h = list-same (proceduresOf ix) (λ q l.
       let b : q < ix .procedures = omega (arith, length-take (ix .procedures) (ix .«procedure_entries»)) in
       rw (getD-take (ix .procedures) (ix .«procedure_entries») q noProcedure b) (h q b))
+
+-- what two equal refusals say
+pub refused-number : {a b c d : ℕ} → Refused a b ≡ Refused c d → a ≡ c
+refused-number e = ap numberOf e
+
+pub refused-row : {a b c d : ℕ} → Refused a b ≡ Refused c d → b ≡ d
+refused-row e = ap valueOf e
+
+-- instruction i of procedure p is its first faulty one, and has this number and this row
+pub record FirstOf (fault : ProcedureEntry → ℕ → ℕ) (t : List ℕ) (p : ProcedureEntry) (i number row : ℕ) : Type 0 where
+  pub inside : i < rowCount (codeOf t p)
+  pub row-is : row ≡ p .code + i
+  pub number-is : fault p i ≡ number
+  pub faulty : fault p i ≡ 0 → ⊥
+  pub before : (j : ℕ) → j < i → fault p j ≡ 0
+
+module _ (fault : ProcedureEntry → ℕ → ℕ) (t : List ℕ) where
+  -- the verdict on procedure p is that of its first faulty instruction
+  abbrev Told : ProcedureEntry → Type 0
+  Told p = (i : ℕ) × (codeVerdict (fault p) (p .code) (rowCount (codeOf t p)) ≡ Refused (fault p i) (p .code + i)) × FirstOf fault t p i (fault p i) (p .code + i)
+
+  -- a procedure is accepted, or its first faulty instruction told
+  code-first : (p : ProcedureEntry) → (codeVerdict (fault p) (p .code) (rowCount (codeOf t p)) ≡ Accepted (0 + rowCount (codeOf t p))) ⊎ Told p
+  unfolding codeVerdict
+  code-first p = ⊎-elim
+      (λ e. inl e)
+      (λ s. inr (s .at, s .told, record { inside = omega (arith, s .inside); row-is = refl; number-is = refl; faulty = s .faulty; before = λ j h. s .before j (omega arith) h }))
+      (clean-or-stops Accepted (λ (number i : ℕ). Refused number (p .code + i)) (fault p) 0 (rowCount (codeOf t p)))
+
+  -- instruction i of number q of a list of procedures is the first faulty one of all
+  abbrev ListFirst : List ProcedureEntry → ℕ → ℕ → Type 0
+  ListFirst ps number row = (q : ℕ) × (i : ℕ) × (q < length ps) × FirstOf fault t (getD ps q noProcedure) i number row × ((r : ℕ) → r < q → Fine fault t (getD ps r noProcedure))
+
+  list-first : (ps : List ProcedureEntry) {number row : ℕ} → overProcedures fault t ps ≡ Refused number row → ListFirst ps number row
+  unfolding overProcedures
+  list-first [] e = absurd (refused-accepted (sym e))
+  list-first (p ∷ ps) {number} {row} e = go (code-first p) (λ a. list-first ps (rw a at e))
+    where
+      above : {q m : ℕ} → codeVerdict (fault p) (p .code) (rowCount (codeOf t p)) ≡ Accepted m → ((r : ℕ) → r < q → Fine fault t (getD ps r noProcedure)) → (r : ℕ) → r < suc q → Fine fault t (getD (p ∷ ps) r noProcedure)
+      above a h zero l = verdict-fine (fault p) (p .code) _ a
+      above a h (suc r) l = h r (omega arith)
+
+      go : (codeVerdict (fault p) (p .code) (rowCount (codeOf t p)) ≡ Accepted (0 + rowCount (codeOf t p))) ⊎ Told p
+          → (codeVerdict (fault p) (p .code) (rowCount (codeOf t p)) ≡ Accepted (0 + rowCount (codeOf t p)) → ListFirst ps number row) → ListFirst (p ∷ ps) number row
+      go (inl a) later = let rest = later a in let inside = rest .2 in (suc (rest .0), rest .1, omega (arith, inside), rest .3, above a (rest .4))
+      go (inr (i, a, f)) later =
+          let same : Refused (fault p i) (p .code + i) ≡ Refused number row = rw a at e in
+          let here : FirstOf fault t p i number row = record { inside = f .inside; row-is = sym (refused-row same); number-is = refused-number same; faulty = f .faulty; before = f .before } in
+          (0, i, omega arith, here, λ r l. absurd (omega arith))
+
+  -- of the procedures of an index
+  pub record First (ix : Index) (number row : ℕ) : Type 0 where
+    pub procedure : ℕ
+    pub instruction : ℕ
+    pub there : procedure < ix .procedures
+    pub entered : procedure < length (ix .«procedure_entries»)
+    pub here : FirstOf fault t (procedureIn ix procedure) instruction number row
+    pub above : (q : ℕ) → q < procedure → Fine fault t (procedureIn ix q)
+
+  -- a pass that refuses does so at the first faulty instruction
+  pub pass-first : (ix : Index) {number row : ℕ} → codePass fault ix t ≡ Refused number row → First ix number row
+  unfolding codePass procedureIn
+  pass-first ix e =
+      let f = list-first (proceduresOf ix) e in
+      let few = length-take (ix .procedures) (ix .«procedure_entries») in
+      let inside = f .2 in
+      let b : (f .0 < ix .procedures) × (f .0 < length (ix .«procedure_entries»)) = omega (arith, few, inside) in
+      record {
+        procedure = f .0;
+        instruction = f .1;
+        there = b .0;
+        entered = b .1;
+        here = rw (getD-take (ix .procedures) (ix .«procedure_entries») (f .0) noProcedure (b .0)) at (f .3);
+        above = λ q l. let lo : q < ix .procedures = omega (arith, b, l) in rw (getD-take (ix .procedures) (ix .«procedure_entries») q noProcedure lo) at (f .4 q l);
+      }

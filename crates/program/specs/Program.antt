@@ -1,10 +1,10 @@
 -- What a table declares, as its index and its rows tell it: kinds of values, fields, parameters, locals, results and instructions.
 -- All of it is defined for any bytes; what document 01 says of it holds of tables that the names pass accepts.
 use Prim.Native.Nat.{ℕ, zero, suc, _+_, _-_, _*_, _%_, _<_, _≤_}
-use mathlib.Core.Bool.{Bool, false, cond, not, _&&_, _||_}
+use mathlib.Core.Bool.{Bool, false, not, _&&_, _||_}
 use mathlib.Core.List.{List, [], _∷_}
 use mathlib.Core.Path.{_≡_}
-use lib.Dec.{eqb, leb, ltb}
+use lib.Dec.{eqb, leb}
 use lib.ListN.{getD, take, length}
 use Rattle.laws.specs.First.{firstFault}
 use Rattle.laws.specs.Lists.{find, tabulate}

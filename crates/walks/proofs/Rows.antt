@@ -10,12 +10,12 @@ use lib.ListN.{length, getD, drop, length-take, length-drop, length-append}
 use lib.Seq.{getD-take, getD-drop}
 use Rattle.laws.specs.Lists.{hits, count, nth}
 use Rattle.laws.specs.Numbers.{le}
-use Rattle.laws.proofs.Lists.{getD-snoc-old, getD-snoc-new, count-yes, count-skip}
+use Rattle.laws.proofs.Lists.{getD-snoc-old, getD-snoc-new, hits-kept, count-yes, count-skip, length-entries}
 use Rattle.table.specs.declared.Verdict.the-variants.{Accepted}
 use Rattle.table.specs.declared.index.ProcedureEntry.{ProcedureEntry}
 use Rattle.table.specs.Format.{procedureKind}
 use Rattle.table.specs.Rows.{rowCount, rowAt, rowFrom, kindAt, isKind}
-use Rattle.table.specs.Index.{indexOf, indexedRows, procedureAt, resultsStart, codeStart, codeEnd}
+use Rattle.table.specs.Index.{noProcedure, indexOf, indexedRows, procedureAt, resultsStart, codeStart, codeEnd}
 use Rattle.table.specs.Procedures.{partOf, rowsBetween}
 use Rattle.table.proofs.Laws.{row-inside, row-outside, not-kind, part-inside, procedure-parts, procedure-locals, procedure-results, procedure-code}
 use Rattle.program.specs.Program.{procedureIn, codeOf, localCount}
@@ -23,7 +23,7 @@ use Rattle.program.proofs.Laws.{procedure-there}
 use Rattle.names.specs.Names.{nothing, localNumber, names, namesOf}
 use Rattle.names.specs.Exist.{Exists, Good}
 use Rattle.names.proofs.Exist.{names-good}
-use Rattle.judging.proofs.Sizes.{nth-hit}
+use Rattle.judging.proofs.Sizes.{nth-hit, part-between, absent}
 
 -- Parts of a table.
 
@@ -93,6 +93,15 @@ pub count-stretch : (hit : ℕ → Bool) (a b : ℕ) → a ≤ b → ((j : ℕ) 
 count-stretch hit a b h f =
     let e : a + (b - a) ≡ b = omega arith in
     rw e at (count-skip hit a (b - a) (λ j lo hi. f j lo (omega arith)))
+
+-- no fewer are hit over a longer stretch
+count-grows : (hit : ℕ → Bool) (a b : ℕ) → a ≤ b → count hit a ≤ count hit b
+unfolding count
+count-grows hit a b h = go (decLt 0 (length (hits hit a)))
+  where
+    go : Dec (0 < length (hits hit a)) → length (hits hit a) ≤ length (hits hit b)
+    go (yes l) = hits-kept hit a b 0 0 h l .1
+    go (no l) = omega arith
 
 -- Procedure q of a table.
 abbrev pub own : List ℕ → ℕ → ProcedureEntry
@@ -164,6 +173,11 @@ module _ (t : List ℕ) (q : ℕ) (there : q < indexOf t .procedures) (few : q <
       let l : i < codeEnd t rowOf - codeStart t rowOf = omega (arith, code-count) in
       rw entry-is (part-row t (codeStart t rowOf) (codeEnd t rowOf) (omega (arith, parts)) (omega (arith, parts)) i l)
 
+  -- its instructions are rows of the table between its row and the end of its code
+  pub code-place : (i : ℕ) → i < rowCount (codeOf t (own t q)) → (rowOf < own t q .code + i) × (own t q .code + i < codeEnd t rowOf)
+  unfolding procedureAt
+  code-place i h = rw entry-is (omega (arith, parts, code-count, h))
+
   module _ (n : ℕ) (accepted : namesOf t ≡ Accepted n) where
     -- every row of an accepted table is good
     good : (i : ℕ) → i < rowCount t → Good t (indexOf t) i
@@ -198,3 +212,31 @@ module _ (t : List ℕ) (q : ℕ) (there : q < indexOf t .procedures) (few : q <
         go (no h) =
             let f : nothing ≡ localNumber = rw (row-outside (codeOf t (own t q)) i (omega arith)) at e in
             let z : _≡_ {A = ℕ} 0 1 = cc in absurd (omega arith)
+
+-- a procedure below 128 has an entry in the index
+pub entries-long : (t : List ℕ) (q : ℕ) → q < 128 → q < length (indexOf t .«procedure_entries»)
+unfolding indexOf
+entries-long t q few = rw (length-entries (isKind t procedureKind) (procedureAt t) noProcedure (indexedRows t) 128) few
+
+-- one that has an instruction is below 128
+pub inside-few : (t : List ℕ) (q i : ℕ) → i < rowCount (codeOf t (own t q)) → q < 128
+unfolding codeOf
+inside-few t q i h = go (decLt q 128)
+  where
+    go : Dec (q < 128) → q < 128
+    go (yes l) = l
+    go (no l) = absurd (let z : i < rowCount (partOf t 0 0) = rw (absent t q (omega arith)) at h in omega (arith, z, part-between t 0 0))
+
+-- procedures stand in table order, and so do their instructions
+pub code-rises : (t : List ℕ) (q r i j : ℕ) → q < r → r < indexOf t .procedures → i < rowCount (codeOf t (own t q)) → j < rowCount (codeOf t (own t r)) → own t q .code + i < own t r .code + j
+code-rises t q r i j less there h k =
+    let known : q < indexOf t .procedures = omega arith in
+    let few = inside-few t q i h in
+    let a = code-place t q known few i h in
+    let b = code-place t r there (inside-few t r j k) j k in
+    go (own-number t q known few _ (a .0) (a .1)) (own-number t r there (inside-few t r j k) _ (b .0) (b .1)) (decLt (own t q .code + i) (own t r .code + j))
+  where
+    go : count (isKind t procedureKind) (own t q .code + i) - 1 ≡ q → count (isKind t procedureKind) (own t r .code + j) - 1 ≡ r → Dec (own t q .code + i < own t r .code + j)
+        → own t q .code + i < own t r .code + j
+    go a b (yes l) = l
+    go a b (no l) = absurd (omega (arith, a, b, less, count-grows (isKind t procedureKind) (own t r .code + j) (own t q .code + i) (omega arith)))

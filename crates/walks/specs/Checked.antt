@@ -1,14 +1,14 @@
 -- What holds wherever a walk arrives, in a table that every pass accepts, in the form in which a proof about running uses it.
-use Prim.Native.Nat.{ℕ, _+_, _<_, _≤_}
+use Prim.Native.Nat.{ℕ, _<_}
 use mathlib.Core.Path.{_≡_}
 use mathlib.Core.Bool.{Bool, true, false}
-use mathlib.Core.List.{List, [], _∷_}
-use lib.ListN.{length, getD}
+use mathlib.Core.List.{List}
+use lib.ListN.{getD}
 use Rattle.table.specs.declared.index.ProcedureEntry.{ProcedureEntry}
 use Rattle.table.specs.Format.{opStLoc, opCall, opRet}
-use Rattle.table.specs.Rows.{rowCount, rowAt}
+use Rattle.table.specs.Rows.{rowAt}
 use Rattle.table.specs.Index.{indexOf}
-use Rattle.program.specs.Program.{procedureIn, codeOf, localCount, localKind, isRecord}
+use Rattle.program.specs.Program.{codeOf, localCount, localKind, isRecord}
 use Rattle.flow.specs.Steps.{nexts}
 use Rattle.flow.specs.Walks.{Slot, empty, full, Walk, entry, markOf}
 use Rattle.locals.specs.Locals.{needsFull, parameterCount}
