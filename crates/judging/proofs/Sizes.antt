@@ -1,7 +1,7 @@
 -- In a table that the rows pass accepts, a procedure has at most 16 locals and 256 instructions.
 use Prim.Native.Nat.{ℕ, zero, suc, _+_, _-_, _*_, _<_, _≤_}
 use mathlib.Core.Path.{_≡_, refl, sym, ap, _∙_}
-use mathlib.Core.Bool.{Bool, true, false, cond, _&&_}
+use mathlib.Core.Bool.{Bool, true, false, cond}
 use mathlib.Core.List.{List, [], _∷_, _++_}
 use mathlib.Core.Logic.{_⊎_, inl, inr, ⊎-elim}
 use native.Mathlib.Nat.{add-zero}
@@ -9,7 +9,6 @@ use native.Mathlib.Numerals.{add-one}
 use native.Mathlib.Decide.{decLt}
 use native.Mathlib.Omega.{arith}
 use borrow.Author.Tests.{leb-false, eqb-true}
-use lib.Dec.{leb}
 use lib.ListN.{length, getD, take, drop, length-take, length-append, List·getD-eq-default}
 use Rattle.laws.specs.Lists.{member, hits, nth, count}
 use Rattle.laws.proofs.First.{all-fine}
@@ -21,7 +20,7 @@ use Rattle.table.specs.declared.index.ProcedureEntry.{ProcedureEntry}
 use Rattle.table.specs.Format.{procedureKind}
 use Rattle.table.specs.Rows.{rowCount, rowAt, kindAt, isKind}
 use Rattle.table.specs.Index.{noProcedure, indexOf, indexedRows, procedureAt, resultsStart, codeStart, codeEnd}
-use Rattle.table.specs.Procedures.{partOf, rowsBetween}
+use Rattle.table.specs.Procedures.{inTable, partOf, rowsBetween}
 use Rattle.table.proofs.Laws.{procedure-parts, procedure-locals, procedure-results, procedure-code}
 use Rattle.rows.specs.declared.Above.{Above}
 use Rattle.rows.specs.Rows.{rowsOf, faultAt, rowFault, misplaced, tooMany, aboveAt, belowRow, countBelow, countOf, owned, limits}
@@ -137,7 +136,7 @@ nth-hit hit n p h = hit-hit hit n p n h
 -- a part has as many rows as lie between its ends, at most
 pub part-between : (t : List ℕ) (from to : ℕ) → rowCount (partOf t from to) ≤ to - from
 unfolding partOf rowsBetween
-part-between t from to = go (leb from to && leb to (rowCount t))
+part-between t from to = go (inTable t from to)
   where
     go : (b : Bool) → rowCount (cond b (take (16 * to - 16 * from) (drop (16 * from) t)) []) ≤ to - from
     go true = omega (arith, length-take (16 * to - 16 * from) (drop (16 * from) t))

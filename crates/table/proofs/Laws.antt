@@ -13,7 +13,7 @@ use Rattle.table.specs.declared.index.ProcedureEntry.{ProcedureEntry}
 use Rattle.table.specs.Format.{rowBytes, moduleKind, fieldKind, procedureKind, localKind, resultKind, instructionKind}
 use Rattle.table.specs.Rows.{rowCount, rowAt, rowFrom, blank, kindAt, isKind}
 use Rattle.table.specs.Index.{indexedRows, runEnd, typeAt, resultsStart, codeStart, codeEnd, procedureAt}
-use Rattle.table.specs.Procedures.{rowsBetween, partOf, endsProcedure, procedureEnd}
+use Rattle.table.specs.Procedures.{rowsBetween, inTable, partOf, partStart, endsProcedure, procedureEnd}
 
 module _ (t : List ℕ) (i : ℕ) where
   pub row-inside : i < rowCount t → rowAt t i ≡ rowFrom t (rowBytes * i)
@@ -127,16 +127,32 @@ module _ (t : List ℕ) (i : ℕ) where
   unfolding procedureEnd
   end-within h = omega (arith, find-within (endsProcedure t) i (rowCount t - i))
 
--- a part of the table
+-- a part of the table: rows that lie in it, and rows that do not
 module _ (t : List ℕ) (from to : ℕ) where
+  pub in-table : from ≤ to → to ≤ rowCount t → inTable t from to ≡ true
+  unfolding inTable
+  in-table h k = rw (le-leb from to h, le-leb to (rowCount t) k)
+
+  pub not-in-order : to < from → inTable t from to ≡ false
+  unfolding inTable
+  not-in-order h = rw (lt-leb from to h)
+
+  pub past-table : from ≤ to → rowCount t < to → inTable t from to ≡ false
+  unfolding inTable
+  past-table h k = rw (le-leb from to h, lt-leb to (rowCount t) k)
+
   pub part-inside : from ≤ to → to ≤ rowCount t → partOf t from to ≡ rowsBetween t from to
   unfolding partOf
-  part-inside h k = rw (le-leb from to h, le-leb to (rowCount t) k)
+  part-inside h k = rw (in-table h k)
 
-  pub part-order : to < from → partOf t from to ≡ []
-  unfolding partOf
-  part-order h = rw (lt-leb from to h)
+  pub start-inside : from ≤ to → to ≤ rowCount t → partStart t from to ≡ rowBytes * from
+  unfolding partStart
+  start-inside h k = rw (in-table h k)
 
-  pub part-past : from ≤ to → rowCount t < to → partOf t from to ≡ []
+  pub part-outside : inTable t from to ≡ false → partOf t from to ≡ []
   unfolding partOf
-  part-past h k = rw (le-leb from to h, lt-leb to (rowCount t) k)
+  part-outside e = rw e
+
+  pub start-outside : inTable t from to ≡ false → partStart t from to ≡ 0
+  unfolding partStart
+  start-outside e = rw e

@@ -1,11 +1,12 @@
 // A procedure's rows, handed back as a part of the caller's table. It takes any bytes and any number.
 ghost use mathlib.Core.Path.{_≡_};
-ghost use Rattle.table.specs.Procedures.{partOf, procedureRow, procedureEnd, procedureRows};
+ghost use Rattle.table.specs.Procedures.{partOf, partStart, placeIn, procedureRow, procedureEnd, procedureRows, procedureStart};
 use crate::format;
 
 // The rows from `from` to before `to`; an empty part where the two do not lie in the table in this order.
 pub fn part<'a>(table: &'a [u8], from: usize, to: usize) -> &'a [u8]
     ensures { λ r. ⌜ now r ≡ partOf (now (table .entry)) from to ⌝ }
+    ensures { λ r. ⌜ r .ptr ≡ placeIn (table .entry .ptr) (partStart (now (table .entry)) from to) ⌝ }
 {
     let n = table.len() / format::ROW_BYTES;
     if from <= to {
@@ -59,6 +60,7 @@ pub fn procedure_end(table: &[u8], start: usize) -> usize
 // The rows of procedure p; an empty part where there is no such procedure.
 pub fn procedure_rows<'a>(table: &'a [u8], p: usize) -> &'a [u8]
     ensures { λ r. ⌜ now r ≡ procedureRows (now (table .entry)) p ⌝ }
+    ensures { λ r. ⌜ r .ptr ≡ placeIn (table .entry .ptr) (procedureStart (now (table .entry)) p) ⌝ }
 {
     let n = table.len() / format::ROW_BYTES;
     let row = procedure_row(table, p);

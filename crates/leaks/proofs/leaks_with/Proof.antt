@@ -86,7 +86,7 @@ slice-aggregate-judge-procedure-3 c = search needs
 -- the part is the code of procedure p
 code-is : (c : tie.After-part Inv-loop μ-loop) → c .part .result .now ≡ codeOf (c .before .before .before .before .before .before .before .before .before .before .before .before .args .table .now) (procedureIn (c .before .before .before .before .before .before .before .before .before .before .before .before .args .t2) (c .before .before .before .before .before .before .before .before .before .before .loop .p))
 unfolding codeOf procedureIn
-code-is c = c .part .ensures
+code-is c = c .part .ensures .0
 
 judge-procedure-requires : tie.Need-judge-procedure-requires Inv-loop μ-loop
 unfolding procedureIn
@@ -117,7 +117,7 @@ loop-again c =
     let entry = passes-entry (c .before .before .before .before .before .before .before .before .before .args .t2) (room (c .before .before .before .before .before .before .before)) _ (c .before .before .before .before .before .if1 .left) in (
       omega arith,
       here .1 ∙ ⊎-elim
-          (λ w. pass-on _ _ _ _ _ _ there entry (trusted-verdict _ _ _ _ _ _ (trusted-is (c .before) ∙ w .0 .taken) (w .3 .ensures) (here .2) (w .7 .ensures) ∙ w .11 .given .1))
+          (λ w. pass-on _ _ _ _ _ _ there entry (trusted-verdict _ _ _ _ _ _ (trusted-is (c .before) ∙ w .0 .taken) (w .3 .ensures .0) (here .2) (w .7 .ensures) ∙ w .11 .given .1))
           (λ w. pass-on _ _ _ _ _ _ there entry (guest-verdict _ _ _ (trusted-is (c .before) ∙ w .0 .left)))
           (c .if3 .came),
       here .2,

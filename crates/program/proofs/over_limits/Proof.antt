@@ -23,7 +23,7 @@ part-requires c κs = search needs
 
 returns-2 : tie.Need-returns-2
 unfolding overLimits codeOf
-returns-2 c = rw (← c .before .before .before .before .local-count .ensures, le-ltb _ _ (c .before .before .before .if1 .left), ← c .part .ensures)
+returns-2 c = rw (← c .before .before .before .before .local-count .ensures, le-ltb _ _ (c .before .before .before .if1 .left), ← c .part .ensures .0)
 
 pub over-limits-spec : {M : Type 1} → statement M
 over-limits-spec =

@@ -22,7 +22,7 @@ row-at-requires c κs = search needs
 
 returns : tie.Need-returns
 unfolding codeOf
-returns c = c .row-at .ensures ∙ ap (λ (s : List ℕ). rowAt s (c .before .before .before .before .before .args .i)) (c .before .part .ensures)
+returns c = c .row-at .ensures ∙ ap (λ (s : List ℕ). rowAt s (c .before .before .before .before .before .args .i)) (c .before .part .ensures .0)
 
 pub instruction-at-spec : {M : Type 1} → statement M
 instruction-at-spec =
