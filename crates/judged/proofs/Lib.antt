@@ -4,3 +4,4 @@ pub mod Procedures
 pub mod Types
 pub mod Instructions
 pub mod Judged
+pub mod ProcedureRows
