@@ -25,7 +25,7 @@ use Rattle.program.specs.Program.{localCount, codeOf, procedureIn}
 use Rattle.program.proofs.Passes.{refused-accepted, unfaulted}
 use Rattle.judging.proofs.Sizes.{rows-fine}
 use Rattle.walks.proofs.Rows.{part-row, rowOf, row-below, entry-is, row-kind, row-count, parts, row-kinds, own-number, code-count, code-row}
-use Rattle.judged.specs.ProcedureRows.{Stands, InCode, InOne}
+use Rattle.judged.specs.ProcedureRows.{Layout, InCode, InOne}
 use Rattle.judged.proofs.Counts.{procedure-few}
 
 -- what is hit first is found
@@ -247,9 +247,9 @@ module _ (t : List ℕ) (n : ℕ) (long : lengthOf t ≡ Accepted (rowCount t)) 
         rows-are ∙ a ∙ rw (b, c, part-inside t (codeStart t row) (codeEnd t row) (omega (arith, ps)) (omega (arith, ps)))
 
     -- its rows are those that the passes judge
-    pub stands : Stands t q (procedureIn (indexOf t) q)
+    pub layout : Layout t q (procedureIn (indexOf t) q)
     unfolding procedureAt localCount codeOf
-    stands =
+    layout =
         let ps = parts t q there few in
         rw (entry-is t q there few) (record {
           own = row-is;

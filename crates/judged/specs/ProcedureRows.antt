@@ -11,7 +11,7 @@ use Rattle.table.specs.Procedures.{rowsBetween, procedureRow, procedureEnd, pro
 use Rattle.program.specs.Program.{localCount, codeOf, procedureIn}
 
 -- procedure p, whose entry in the index is e
-pub record Stands (t : List ℕ) (p : ℕ) (e : ProcedureEntry) : Type 0 where
+pub record Layout (t : List ℕ) (p : ℕ) (e : ProcedureEntry) : Type 0 where
   -- its own row is number p of the rows of kind 4
   pub own : procedureRow t p ≡ e .row
   pub own-kind : kindAt t (e .row) ≡ procedureKind
