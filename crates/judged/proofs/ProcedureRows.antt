@@ -17,8 +17,8 @@ use Rattle.table.specs.declared.Verdict.the-variants.{Accepted, Refused}
 use Rattle.table.specs.Format.{moduleKind, procedureKind, localKind, resultKind, instructionKind}
 use Rattle.table.specs.Rows.{rowCount, rowAt, kindAt, isKind}
 use Rattle.table.specs.Index.{indexOf, indexedRows, runEnd, procedureAt, resultsStart, codeStart, codeEnd}
-use Rattle.table.specs.Procedures.{rowsBetween, partOf, procedureRow, endsProcedure, procedureEnd, hasProcedure, procedureRows}
-use Rattle.table.proofs.Laws.{is-kind, not-kind, ends-module, ends-procedure, ends-not, part-inside, procedure-locals, procedure-results, procedure-code}
+use Rattle.table.specs.Procedures.{rowsBetween, partOf, partStart, procedureRow, endsProcedure, procedureEnd, hasProcedure, procedureRows, procedureStart}
+use Rattle.table.proofs.Laws.{is-kind, not-kind, ends-module, ends-procedure, ends-not, part-inside, start-inside, procedure-locals, procedure-results, procedure-code}
 use Rattle.rows.specs.Rows.{lengthOf, rowsOf, faultAt, rowFault, misplaced, mayFollow, aboveAt, belowRow}
 use Rattle.rows.proofs.Laws.{froms, tos, follow, follow-none}
 use Rattle.program.specs.Program.{localCount, codeOf, procedureIn}
@@ -246,6 +246,14 @@ module _ (t : List ℕ) (n : ℕ) (long : lengthOf t ≡ Accepted (rowCount t)) 
         let c = between-joined t (resultsStart t row) (codeStart t row) (codeEnd t row) (omega (arith, ps)) (omega (arith, ps)) in
         rows-are ∙ a ∙ rw (b, c, part-inside t (codeStart t row) (codeEnd t row) (omega (arith, ps)) (omega (arith, ps)))
 
+    -- the place of its code
+    code-start : partStart t (codeStart t row) (codeEnd t row) ≡ procedureStart t q + 16 * (codeStart t row - row)
+    unfolding procedureStart hasProcedure
+    code-start =
+        let ps = parts t q there few in
+        let h : row < rowCount t = omega (arith, ps) in
+        rw (start-inside t (codeStart t row) (codeEnd t row) (omega (arith, ps)) (omega (arith, ps)), row-is, lt-ltb row (rowCount t) h) (omega (arith, ps))
+
     -- its rows are those that the passes judge
     pub layout : Layout t q (procedureIn (indexOf t) q)
     unfolding procedureAt localCount codeOf
@@ -260,6 +268,7 @@ module _ (t : List ℕ) (n : ℕ) (long : lengthOf t ≡ Accepted (rowCount t)) 
           code-kind = λ r lo hi. sym (procedure-code t row lo hi);
           ends = rows-end;
           parts = four;
+          code-place = code-start;
           row-at = row-in;
           local-at = λ l h. let e : row + 1 + l ≡ row + (1 + l) = omega arith in rw e (row-in (1 + l) (omega (arith, ps)));
           code-at = λ i h.

@@ -1,13 +1,13 @@
 -- A procedure's rows in a table that the rows pass accepts (document 01, "Table rows"): its own row, its locals, its results and its instructions, the
 -- same rows that the passes judge; and each instruction of the table stands in one procedure.
-use Prim.Native.Nat.{ℕ, _+_, _-_, _<_, _≤_}
+use Prim.Native.Nat.{ℕ, _+_, _-_, _*_, _<_, _≤_}
 use mathlib.Core.Path.{_≡_}
 use mathlib.Core.List.{List, _++_}
 use Rattle.table.specs.declared.index.ProcedureEntry.{ProcedureEntry}
-use Rattle.table.specs.Format.{procedureKind, localKind, resultKind, instructionKind}
+use Rattle.table.specs.Format.{rowBytes, procedureKind, localKind, resultKind, instructionKind}
 use Rattle.table.specs.Rows.{rowCount, rowAt, kindAt}
 use Rattle.table.specs.Index.{indexOf}
-use Rattle.table.specs.Procedures.{rowsBetween, procedureRow, procedureEnd, procedureRows}
+use Rattle.table.specs.Procedures.{rowsBetween, partStart, procedureRow, procedureEnd, procedureRows, procedureStart}
 use Rattle.program.specs.Program.{localCount, codeOf, procedureIn}
 
 -- procedure p, whose entry in the index is e
@@ -23,6 +23,8 @@ pub record Layout (t : List ℕ) (p : ℕ) (e : ProcedureEntry) : Type 0 where
   pub ends : procedureEnd t (e .row + 1) ≡ e .end
   -- so its rows are these four parts, byte for byte
   pub parts : procedureRows t p ≡ rowsBetween t (e .row) (e .row + 1) ++ (rowsBetween t (e .row + 1) (e .results) ++ (rowsBetween t (e .results) (e .code) ++ codeOf t e))
+  -- the part that the passes receive lies within the part that is the procedure's rows, from its first instruction on
+  pub code-place : partStart t (e .code) (e .end) ≡ procedureStart t p + rowBytes * (e .code - e .row)
   -- and row by row: a row of the table, a local, an instruction
   pub row-at : (i : ℕ) → i < e .end - e .row → rowAt t (e .row + i) ≡ rowAt (procedureRows t p) i
   pub local-at : (l : ℕ) → l < localCount e → rowAt t (e .row + 1 + l) ≡ rowAt (procedureRows t p) (1 + l)
