@@ -1,36 +1,50 @@
--- The rules answer each example as the table says, by computation.
+-- The rules answer each example as the table says, by computation: part by part, since the checker bounds what one theorem may compute.
 use mathlib.Core.Path.{_≡_, refl}
-use mathlib.Core.List.{List}
-use Rattle.laws.specs.First.{firstFault}
-use Rattle.laws.specs.Lists
-use Rattle.laws.specs.Numbers.{le, toLe}
-use Rattle.table.specs.Rows.{rowAt, rowFrom, kindAt, isKind}
-use Rattle.table.specs.Index
-use Rattle.table.specs.Procedures
-use Rattle.rows.specs.Rows
-use Rattle.program.specs.Program
-use Rattle.names.specs.Names
-use Rattle.kinds.specs.Kinds
-use Rattle.kinds.specs.Effects
-use Rattle.operands.specs.Operands
-use Rattle.reach.specs.Reach.{mark, push, sweep, iter}
-use Rattle.flow.specs.Steps as Rules
-use Rattle.flow.specs.Places
-use Rattle.locals.specs.Locals
-use Rattle.steps.specs.Steps
-use Rattle.leaks.specs.Leaks
-use Rattle.judging.specs.Judging.{judgeOf, inOrder, passes}
-use Rattle.operands.specs.Flow.{effectIn}
+use mathlib.Core.List.{List, _++_, map, map-append}
+use Rattle.judging.specs.Judging.{judgeOf}
 use Rattle.rules.specs.Machine.{Entry}
-use Rattle.rules.specs.Step.{actions, instruction, effectAt, act}
-use Rattle.rules.specs.Calls
-use Rattle.rules.specs.History.{go, history, lastBase}
-use Rattle.rules.specs.Ascii.{ascii}
-use Rattle.rules.specs.Text
-use Rattle.rules.specs.Run.{bufferOf, historyOf, answerWith, runOf}
-use Rattle.examples.specs.Tables
-use Rattle.examples.specs.Examples.{examples, expected, answers, line}
+use Rattle.rules.specs.Run.{runOf}
+use Rattle.examples.specs.Examples.{Example, Answer, judgingRows, judgingWalks, judgingMarks, judgingOverwritten, runningCalls, runningLimits, examples, line, given, expected, answered, answers}
+use Rattle.examples.proofs.Rules.{rules}
+
+-- what the rules answer to an example; that they answer some examples as stated
+abbrev told : Example → Answer
+told = answered judgeOf (runOf (λ (es : List Entry). es))
+
+Hold : List Example → Type 0
+Hold es = map told es ≡ map given es
+
+rows-hold : Hold judgingRows
+unfolding Hold rules judgingRows
+rows-hold = refl
+
+walks-hold : Hold judgingWalks
+unfolding Hold rules judgingWalks
+walks-hold = refl
+
+marks-hold : Hold judgingMarks
+unfolding Hold rules judgingMarks
+marks-hold = refl
+
+overwritten-hold : Hold judgingOverwritten
+unfolding Hold rules judgingOverwritten
+overwritten-hold = refl
+
+calls-hold : Hold runningCalls
+unfolding Hold rules runningCalls line
+calls-hold = refl
+
+limits-hold : Hold runningLimits
+unfolding Hold rules runningLimits line
+limits-hold = refl
+
+both : (xs ys : List Example) → Hold xs → Hold ys → Hold (xs ++ ys)
+unfolding Hold
+both xs ys hx hy = rw (map-append told xs ys, map-append given xs ys, hx, hy) refl
+
+parts-hold : Hold (judgingRows ++ judgingWalks ++ judgingMarks ++ judgingOverwritten ++ runningCalls ++ runningLimits)
+parts-hold = both _ _ (both _ _ (both _ _ (both _ _ (both _ _ rows-hold walks-hold) marks-hold) overwritten-hold) calls-hold) limits-hold
 
 pub all-hold : answers judgeOf (runOf (λ (es : List Entry). es)) ≡ expected
-unfolding examples expected answers line judgeOf inOrder passes firstFault Lists.member Lists.none Lists.tabulate Lists.hits Lists.find Lists.nth Lists.count Lists.entryOf Lists.entries le toLe rowAt rowFrom kindAt isKind Index.runEnd Index.ownerAt Index.typeAt Index.resultsStart Index.codeStart Index.codeEnd Index.procedureAt Index.indexOf Procedures.rowsBetween Procedures.inTable Procedures.partOf Rows.formOf Rows.lengthOf Rows.rowsOf Rows.faultAt Rows.rowFault Rows.aboveAt Rows.belowRow Rows.countBelow Rows.countOf Rows.owned Rows.mayFollow Rows.limits Rows.uses Rows.usedWith Rows.usesA Rows.usesB Rows.usesC Rows.usesD Rows.misplaced Rows.tooMany Rows.unusedByte Rows.badValue Rows.badGuard Program.isRecord Program.isReference Program.rowKind Program.kindsFrom Program.kindsOf Program.typeIn Program.procedureIn Program.fieldCount Program.fieldKinds Program.fieldRow Program.localCount Program.localKind Program.isParameter Program.parametersEnd Program.parameterKinds Program.resultKinds Program.codeOf Program.codeLength Program.codeVerdict Program.overProcedures Program.codePass Program.jumpsTo Program.targetBelow Program.isTarget Names.names Names.missing Names.badEnd Names.hasType Names.notLower Names.noSuchType Names.noSuchName Names.nameFault Names.faultAt Names.namesWith Kinds.failed Kinds.taken Kinds.pushed Kinds.takenAll Kinds.pushedAll Kinds.topOf Kinds.faultAfter Effects.effects Effects.effectOf Effects.applied Effects.kindsAfter Operands.namedType Operands.endsBlock Operands.lastOfBlock Operands.foreign Operands.after Operands.kindsBefore Operands.codeFault Operands.operandsWith Operands.operandsOf Names.namesOf mark push sweep iter Rules.below Rules.nextOf Rules.nexts Places.nodesAt Places.nodesOf Places.succs Places.reached Places.statusAfter Places.localMoves Places.startStatus Places.localNodes Places.freshPlaces Places.within Places.markMoves Places.placeMoves Places.startPlaces Places.markNodes Locals.parameterCount Locals.needsFull Locals.nodesOf Locals.leavesEmpty Locals.leavesFull Locals.leavesRecord Locals.leavesSome Locals.localFault Locals.localsOf Steps.borrowsGuarded Steps.freshMarks Steps.stepOf Steps.stepAt Leaks.inTrusted Leaks.someMarked Leaks.leakIn Leaks.marksOf Leaks.leakFrom Leaks.leakFault Leaks.leaksOf Tables.row Tables.table Tables.trusted Tables.guest Tables.type Tables.number Tables.guarded Tables.public Tables.private Tables.parameter Tables.local Tables.result Tables.code Tables.loadConst Tables.rowsS Tables.rowsT Tables.rowsRound Tables.call Tables.argument Tables.with-row Tables.without-row Tables.times effectIn actions instruction effectAt act Calls.arguments Calls.badKind Calls.unusedByte Calls.argumentFirst Calls.allNumbers Calls.noSuchProcedure Calls.notNumbers Calls.wrongCount Calls.badBudget Calls.badCall Calls.listFault Calls.listOf Calls.callsFrom Calls.callsOf go history lastBase ascii Text.digits Text.decimal Text.fieldsText Text.entryLine Text.entryLines Text.callLine Text.callLines Text.textOf bufferOf historyOf answerWith runOf
-all-hold = refl
+unfolding Hold examples answers expected
+all-hold = parts-hold

@@ -1,4 +1,5 @@
--- One table of examples: the bytes of a table and what judging them answers.
+-- One table of examples: the bytes of a table and what judging them answers, or a table and a call list and what running them prints.
+-- The running ones do every opcode and meet every stop.
 use Prim.Native.Nat.{ℕ, _-_}
 use mathlib.Core.List.{List, [], _∷_, _++_, map}
 use lib.ListN.{length, take, drop, replicate}
@@ -7,7 +8,7 @@ use Rattle.table.specs.declared.Verdict.{Verdict}
 use Rattle.table.specs.declared.Verdict.the-variants.{Accepted, Refused}
 use Rattle.rules.specs.Ascii.{ascii}
 use Rattle.rules.specs.Run.{Ran, minText}
-use Rattle.examples.specs.Tables.{row, table, trusted, guest, type, number, guarded, public, private, parameter, local, code, loadConst, call, argument, rowsS, rowsT, rowsRound, with-row, without-row, times}
+use Rattle.examples.specs.Tables.{row, table, trusted, guest, type, number, guarded, public, private, parameter, local, result, code, pop, loadConst, mvLoc, cpLoc, stLoc, borrowFld, readRef, pack, moveTo, callProcedure, ret, branch, branchCond, subtract, call, argument, rowsS, rowsT, rowsRound, with-row, without-row, times, rowsLent, rowsTakesTwo, rowsMarkedOnFallThrough, rowsMarkedOnJump, rowsOverwrittenOnce, rowsOverwrittenTwice, rowsOps, rowsLoop, rowsClosed, rowsWritten, rowsTwo, rowsNested, rowsGuest, rowsRefilled, rowsEmptied, rowsReturned, rowsStale, rowsDeep, rowsMany, rowsFull}
 
 -- an example: the bytes of a table and its verdict; or a table, a call list and the length of a text buffer, with the answer and the text
 pub data Example : Type 0 where
@@ -28,8 +29,9 @@ refuses t l room number row = running t l room (Refused number row) []
 unfoldable pub line : String → List ℕ
 line words = ascii words ++ ascii "\n"
 
-unfoldable pub examples : List Example
-examples =
+-- length, rows, names and operands: refusals 1 to 10
+unfoldable pub judgingRows : List Example
+judgingRows =
     -- document 01: no bytes; T less one byte; row 0 guest
     gives [] (Refused 1 0)
     ∷ gives (take 255 (table rowsT)) (Refused 1 0)
@@ -38,9 +40,10 @@ examples =
     ∷ gives (table (type ∷ [])) (Refused 2 0)
     ∷ gives (table (guest ∷ row 8 0 0 0 0 ∷ [])) (Refused 2 1)
     ∷ gives (table (guest ∷ number ∷ [])) (Refused 2 1)
-    -- 3: a 17th module; a ninth field
+    -- 3: a 17th module; a ninth field; a 17th local
     ∷ gives (table (times 17 guest)) (Refused 3 16)
     ∷ gives (table (guest ∷ type ∷ times 9 number)) (Refused 3 10)
+    ∷ gives (table (guest ∷ public ∷ times 17 (local 0 0) ++ (ret ∷ []))) (Refused 3 18)
     -- 4: an unused byte; a parameter after another local; C of 256; opcode 20; Op 4; a guarded record
     ∷ gives (table (guest ∷ row 2 1 0 0 0 ∷ [])) (Refused 4 1)
     ∷ gives (table (guest ∷ public ∷ local 0 0 ∷ parameter 0 0 ∷ [])) (Refused 4 3)
@@ -53,47 +56,117 @@ examples =
     ∷ gives (table (guest ∷ row 2 1 0 0 0 ∷ row 9 0 0 0 0 ∷ [])) (Refused 4 1)
     -- S: accepted; its row 9 Pop; its row 7 taken out
     ∷ gives (table rowsS) (Accepted 10)
-    ∷ gives (table (with-row 9 (code 0 0) rowsS)) (Refused 5 3)
+    ∷ gives (table (with-row 9 pop rowsS)) (Refused 5 3)
     ∷ gives (table (without-row 7 rowsS)) (Refused 7 7)
     -- 5: no instructions
     ∷ gives (table (guest ∷ public ∷ [])) (Refused 5 1)
     -- 6: a type, a target and a lower type that are not there
-    ∷ gives (table (guest ∷ public ∷ parameter 1 0 ∷ code 16 0 ∷ [])) (Refused 6 2)
-    ∷ gives (table (guest ∷ public ∷ code 17 5 ∷ [])) (Refused 6 2)
+    ∷ gives (table (guest ∷ public ∷ parameter 1 0 ∷ ret ∷ [])) (Refused 6 2)
+    ∷ gives (table (guest ∷ public ∷ branch 5 ∷ [])) (Refused 6 2)
     ∷ gives (table (guest ∷ type ∷ row 3 1 0 0 0 ∷ [])) (Refused 6 2)
     -- 7: an operand missing; 8: a 17th operand; 9: an operand under the results
-    ∷ gives (table (guest ∷ public ∷ code 0 0 ∷ code 16 0 ∷ [])) (Refused 7 2)
-    ∷ gives (table (guest ∷ public ∷ times 17 (loadConst 1) ++ (code 16 0 ∷ []))) (Refused 8 18)
-    ∷ gives (table (guest ∷ public ∷ loadConst 1 ∷ code 16 0 ∷ [])) (Refused 9 3)
+    ∷ gives (table (guest ∷ public ∷ pop ∷ ret ∷ [])) (Refused 7 2)
+    ∷ gives (table (guest ∷ public ∷ times 17 (loadConst 1) ++ (ret ∷ []))) (Refused 8 18)
+    ∷ gives (table (guest ∷ public ∷ loadConst 1 ∷ ret ∷ [])) (Refused 9 3)
     -- 10: a type, and a private procedure, of another module
-    ∷ gives (table (trusted ∷ type ∷ guest ∷ public ∷ code 9 0 ∷ code 16 0 ∷ [])) (Refused 10 4)
-    ∷ gives (table (guest ∷ private ∷ code 16 0 ∷ guest ∷ public ∷ code 15 0 ∷ code 16 0 ∷ [])) (Refused 10 5)
+    ∷ gives (table (trusted ∷ type ∷ guest ∷ public ∷ pack 0 ∷ ret ∷ [])) (Refused 10 4)
+    ∷ gives (table (guest ∷ private ∷ ret ∷ guest ∷ public ∷ callProcedure 0 ∷ ret ∷ [])) (Refused 10 5)
+    -- 10 between two trusted modules: Pack, and BorrowFld through a reference
+    ∷ gives (table (trusted ∷ type ∷ guarded ∷ trusted ∷ public ∷ loadConst 500 ∷ pack 0 ∷ loadConst 7 ∷ moveTo 0 ∷ ret ∷ [])) (Refused 10 6)
+    ∷ gives (table (trusted ∷ type ∷ guarded ∷ trusted ∷ public ∷ parameter 3 0 ∷ mvLoc 0 ∷ borrowFld 0 0 ∷ readRef ∷ pop ∷ ret ∷ [])) (Refused 10 7)
     -- two faults on one row: 7 before 10, 9 before 10
-    ∷ gives (table (guest ∷ private ∷ parameter 0 0 ∷ code 16 0 ∷ guest ∷ public ∷ code 15 0 ∷ code 16 0 ∷ [])) (Refused 7 6)
-    ∷ gives (table (trusted ∷ type ∷ guest ∷ public ∷ code 9 0 ∷ code 17 1 ∷ [])) (Refused 9 4)
+    ∷ gives (table (guest ∷ private ∷ parameter 0 0 ∷ ret ∷ guest ∷ public ∷ callProcedure 0 ∷ ret ∷ [])) (Refused 7 6)
+    ∷ gives (table (trusted ∷ type ∷ guest ∷ public ∷ pack 0 ∷ branch 1 ∷ [])) (Refused 9 4)
     -- a faulty row that no walk reaches
-    ∷ gives (table (guest ∷ public ∷ code 17 2 ∷ code 0 0 ∷ code 16 0 ∷ [])) (Refused 7 3)
+    ∷ gives (table (guest ∷ public ∷ branch 2 ∷ pop ∷ ret ∷ [])) (Refused 7 3)
+    -- a jump in a row that no walk reaches starts a block at its target: the row above it leaves an operand
+    ∷ gives (table (guest ∷ public ∷ loadConst 0 ∷ pop ∷ ret ∷ branch 1 ∷ [])) (Refused 9 2)
+    ∷ []
+
+-- locals and leaks: refusals 11 to 14
+unfoldable pub judgingWalks : List Example
+judgingWalks =
     -- T hands out a marked reference; T with its field unguarded
-    ∷ gives (table rowsT) (Refused 14 15)
+    gives (table rowsT) (Refused 14 15)
     ∷ gives (table (with-row 2 number rowsT)) (Accepted 16)
     -- S with MvLoc 0 and Pop put in after row 7
-    ∷ gives (table (take 8 rowsS ++ (code 2 0 ∷ code 0 0 ∷ drop 8 rowsS))) (Refused 11 8)
+    ∷ gives (table (take 8 rowsS ++ (mvLoc 0 ∷ pop ∷ drop 8 rowsS))) (Refused 11 8)
     -- a marked reference given to an own procedure
-    ∷ gives (table (take 12 rowsT ++ (code 2 0 ∷ code 8 0 ∷ code 15 2 ∷ code 16 0 ∷ private ∷ parameter 2 0 ∷ code 16 0 ∷ []))) (Refused 13 14)
+    ∷ gives (table (take 12 rowsT ++ (mvLoc 0 ∷ borrowFld 0 0 ∷ callProcedure 2 ∷ ret ∷ private ∷ parameter 2 0 ∷ ret ∷ []))) (Refused 13 14)
     -- a mark that travels through three locals round a loop
     ∷ gives (table rowsRound) (Refused 13 16)
     -- a record left in a local on one of two ways
-    ∷ gives (table (trusted ∷ type ∷ public ∷ parameter 0 0 ∷ local 1 0 ∷ code 2 0 ∷ code 18 4 ∷ code 9 0 ∷ code 4 1 ∷ code 16 0 ∷ [])) (Refused 12 9)
+    ∷ gives (table (trusted ∷ type ∷ public ∷ parameter 0 0 ∷ local 1 0 ∷ mvLoc 0 ∷ branchCond 4 ∷ pack 0 ∷ stLoc 1 ∷ ret ∷ [])) (Refused 12 9)
     -- a walk goes on past a faulty row
-    ∷ gives (table (guest ∷ public ∷ local 0 0 ∷ code 17 4 ∷ code 3 0 ∷ code 0 0 ∷ code 16 0 ∷ code 2 0 ∷ code 0 0 ∷ code 17 1 ∷ [])) (Refused 11 4)
+    ∷ gives (table (guest ∷ public ∷ local 0 0 ∷ branch 4 ∷ cpLoc 0 ∷ pop ∷ ret ∷ mvLoc 0 ∷ pop ∷ branch 1 ∷ [])) (Refused 11 4)
+    ∷ []
+
+-- leaks: marks on two ways and on two arguments
+unfoldable pub judgingMarks : List Example
+judgingMarks =
+    -- a mark that comes on one of two ways only
+    gives (table rowsMarkedOnFallThrough) (Refused 13 13)
+    ∷ gives (table rowsMarkedOnJump) (Refused 13 14)
+    -- the lower of two arguments is marked; the upper
+    ∷ gives (table (rowsLent ++ (cpLoc 0 ∷ borrowFld 0 0 ∷ mvLoc 1 ∷ callProcedure 1 ∷ ret ∷ rowsTakesTwo))) (Refused 13 10)
+    ∷ gives (table (rowsLent ++ (mvLoc 1 ∷ cpLoc 0 ∷ borrowFld 0 0 ∷ callProcedure 1 ∷ ret ∷ rowsTakesTwo))) (Refused 13 10)
+    ∷ []
+
+-- leaks: marks that are overwritten
+unfoldable pub judgingOverwritten : List Example
+judgingOverwritten =
+    -- a mark overwritten by BorrowLoc of a local that was emptied; overwritten on one of two ways; on both
+    gives (table (rowsOverwrittenOnce mvLoc)) (Refused 11 12)
+    ∷ gives (table (rowsOverwrittenOnce cpLoc)) (Refused 13 15)
+    ∷ gives (table rowsOverwrittenTwice) (Accepted 23)
+    ∷ []
+
+-- call lists: refusals 15 to 17, every opcode, and stops 31 to 35
+unfoldable pub runningCalls : List Example
+runningCalls =
     -- S run: budget 5 finishes, budget 4 stops 31 at row 9; twice with budget 100
-    ∷ prints (table rowsS) (table (call 0 5 ∷ argument 7 ∷ [])) (line "call 0 done" ++ line "store 0 7 500")
+    prints (table rowsS) (table (call 0 5 ∷ argument 7 ∷ [])) (line "call 0 done" ++ line "store 0 7 500")
     ∷ prints (table rowsS) (table (call 0 4 ∷ argument 7 ∷ [])) (line "call 0 stop 31 row 9")
     ∷ prints (table rowsS) (table (call 0 100 ∷ argument 7 ∷ call 0 100 ∷ argument 7 ∷ [])) (line "call 0 done" ++ line "call 1 stop 33 row 8" ++ line "store 0 7 500")
     -- a reference kept after its record was broken up and another one made
     ∷ prints (table (trusted ∷ type ∷ guarded ∷ public ∷ parameter 0 0 ∷ local 1 0 ∷ local 2 0 ∷ loadConst 500 ∷ code 9 0 ∷ code 4 1 ∷ code 5 1 ∷ code 8 0 ∷ code 4 2 ∷ code 2 1 ∷ code 10 0 ∷ code 9 0 ∷ code 4 1 ∷ loadConst 1 ∷ code 2 2 ∷ code 7 0 ∷ code 2 1 ∷ code 2 0 ∷ code 11 0 ∷ code 16 0 ∷ [])) (table (call 0 100 ∷ argument 7 ∷ [])) (line "call 0 stop 35 row 19")
     -- an empty list
     ∷ prints (table rowsS) [] []
+    -- 31 comes before 33
+    ∷ prints (table rowsS) (table (call 0 100 ∷ argument 7 ∷ call 0 3 ∷ argument 7 ∷ [])) (line "call 0 done" ++ line "call 1 stop 31 row 8" ++ line "store 0 7 500")
+    -- the Ops; 32: a sum above 64 bits, a difference below 0
+    ∷ prints (table rowsOps)
+    (table (call 0 4 ∷ argument 18446744073709551615 ∷ argument 0 ∷ call 0 4 ∷ argument 18446744073709551615 ∷ argument 1
+    ∷ call 1 4 ∷ argument 5 ∷ argument 5 ∷ call 1 4 ∷ argument 5 ∷ argument 6
+    ∷ call 2 4 ∷ argument 4 ∷ argument 4 ∷ call 2 4 ∷ argument 4 ∷ argument 5
+    ∷ call 3 4 ∷ argument 3 ∷ argument 4 ∷ call 3 4 ∷ argument 4 ∷ argument 4 ∷ call 3 4 ∷ argument 4 ∷ argument 3 ∷ []))
+    (line "call 0 done 18446744073709551615" ++ line "call 1 stop 32 row 7"
+    ++ line "call 2 done 0" ++ line "call 3 stop 32 row 15"
+    ++ line "call 4 done 1" ++ line "call 5 done 0"
+    ++ line "call 6 done 1" ++ line "call 7 done 0" ++ line "call 8 done 0")
+    -- a loop of 50 instructions, with a budget of 50 and of 49
+    ∷ prints (table rowsLoop) (table (call 0 50 ∷ argument 4 ∷ call 0 49 ∷ argument 4 ∷ [])) (line "call 0 done 10" ++ line "call 1 stop 31 row 10")
+    -- a credit is withdrawn and broken up
+    ∷ prints (table rowsClosed) (table (call 1 100 ∷ argument 7 ∷ call 0 100 ∷ argument 7 ∷ call 1 100 ∷ argument 7 ∷ call 1 100 ∷ argument 7 ∷ []))
+    (line "call 0 done 0" ++ line "call 1 done" ++ line "call 2 done 500" ++ line "call 3 done 0")
+    -- published, then 0 less 1: the store is empty again
+    ∷ prints (table (take 9 rowsS ++ (loadConst 0 ∷ loadConst 1 ∷ subtract ∷ pop ∷ ret ∷ []))) (table (call 0 100 ∷ argument 7 ∷ [])) (line "call 0 stop 32 row 11")
+    -- call 2 writes 200 and stops: the kilos are 60 again; 34
+    ∷ prints (table rowsWritten)
+    (table (call 0 100 ∷ argument 7 ∷ call 1 100 ∷ argument 7 ∷ argument 60 ∷ call 1 100 ∷ argument 7 ∷ argument 200 ∷ call 2 100 ∷ argument 7 ∷ call 2 100 ∷ argument 8 ∷ []))
+    (line "call 0 done" ++ line "call 1 done 40" ++ line "call 2 stop 32 row 21" ++ line "call 3 done 60" ++ line "call 4 stop 34 row 27" ++ line "store 0 7 60")
+    -- the second of two credits is written; the newest entry is printed first
+    ∷ prints (table rowsTwo) (table (call 0 100 ∷ [])) (line "call 0 done" ++ line "store 0 8 3" ++ line "store 0 7 1")
+    -- nested records
+    ∷ prints (table rowsNested) (table (call 0 100 ∷ argument 7 ∷ [])) (line "call 0 done" ++ line "store 2 7 (1 8 (0 9)) (0 6)")
+    -- a guest holds a credit and calls the trusted module; 34: withdrawn twice in one call
+    ∷ prints (table rowsGuest) (table (call 4 100 ∷ argument 7 ∷ call 5 100 ∷ argument 7 ∷ [])) (line "call 0 done" ++ line "call 1 stop 34 row 26" ++ line "store 0 7 1")
+    -- references to locals: filled again; 35: empty, and of a frame that has returned
+    ∷ prints (table rowsRefilled) (table (call 0 100 ∷ argument 41 ∷ [])) (line "call 0 done 42")
+    ∷ prints (table rowsEmptied) (table (call 0 100 ∷ argument 41 ∷ [])) (line "call 0 stop 35 row 7")
+    ∷ prints (table rowsReturned) (table (call 0 100 ∷ [])) (line "call 0 stop 35 row 4")
+    -- 35: the record was unpacked and its room is used again
+    ∷ prints (table rowsStale) (table (call 0 100 ∷ argument 7 ∷ [])) (line "call 0 stop 35 row 19")
     -- a refused table; 15: a short row, an argument first; 16: no such procedure, no budget; 17
     ∷ refuses (table rowsT) [] 65536 14 15
     ∷ refuses (table rowsS) (1 ∷ []) 65536 15 0
@@ -102,6 +175,21 @@ examples =
     ∷ refuses (table rowsS) (table (call 0 5 ∷ argument 7 ∷ call 0 0 ∷ argument 7 ∷ [])) 65536 16 2
     ∷ refuses (table rowsS) [] 65535 17 0
     ∷ []
+
+-- the limits of running: stops 36 to 38
+unfoldable pub runningLimits : List Example
+runningLimits =
+    -- 16 frames; 36: a 17th
+    prints (table rowsDeep) (table (call 0 200 ∷ argument 15 ∷ call 0 200 ∷ argument 16 ∷ [])) (line "call 0 done" ++ line "call 1 stop 36 row 9")
+    -- 37: 128 records live, and a 129th is packed
+    ∷ prints (table rowsMany) (table (call 0 1000 ∷ argument 7 ∷ [])) (line "call 0 stop 37 row 39")
+    -- 64 entries, and 33 comes before 38; 38: a 65th
+    ∷ prints (table rowsFull) (table (call 0 1000 ∷ argument 64 ∷ call 0 1000 ∷ argument 65 ∷ [])) (line "call 0 stop 33 row 15" ++ line "call 1 stop 38 row 6")
+    ∷ []
+
+-- all of them
+unfoldable pub examples : List Example
+examples = judgingRows ++ judgingWalks ++ judgingMarks ++ judgingOverwritten ++ runningCalls ++ runningLimits
 
 -- what an example is answered with
 pub data Answer : Type 0 where

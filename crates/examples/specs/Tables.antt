@@ -1,10 +1,10 @@
--- Tables written row by row: T and S of document 01, and the ways to change them.
-use Prim.Native.Nat.{ℕ, zero, suc, _*_, _-_}
+-- Tables written row by row: the rows by name, T and S of document 01, the ways to change them, and the longer tables of the examples.
+use Prim.Native.Nat.{ℕ, zero, suc, _+_, _*_}
 use mathlib.Core.List.{List, [], _∷_, _++_}
 use lib.ListN.{take, drop}
 use Rattle.laws.specs.Numbers.{toLe}
 use Rattle.rules.specs.Calls.{callRow, argumentRow}
-use Rattle.table.specs.Format.{moduleKind, typeKind, fieldKind, procedureKind, localKind, resultKind, instructionKind, rowBytes}
+use Rattle.table.specs.Format.{moduleKind, typeKind, fieldKind, procedureKind, localKind, resultKind, instructionKind, opPop, opLoadConst, opMvLoc, opCpLoc, opStLoc, opBorrowLoc, opReadRef, opWriteRef, opBorrowFld, opPack, opUnpack, opMoveTo, opMoveFrom, opBorrowGlobal, opExists, opCall, opRet, opBranch, opBranchCond, opOp}
 
 -- the bytes of a row
 unfoldable pub row : ℕ → ℕ → ℕ → ℕ → ℕ → List ℕ
@@ -31,6 +31,9 @@ number = row fieldKind 0 0 0 0
 unfoldable pub guarded : List ℕ
 guarded = row fieldKind 0 0 1 0
 
+unfoldable pub recordField : ℕ → List ℕ
+recordField y = row fieldKind 1 y 0 0
+
 unfoldable pub public : List ℕ
 public = row procedureKind 1 0 0 0
 
@@ -47,12 +50,80 @@ local sort b = row localKind sort b 0 0
 unfoldable pub result : ℕ → ℕ → List ℕ
 result sort b = row resultKind sort b 0 0
 
--- an instruction, by opcode and operand, and LoadConst
+-- an instruction, by opcode and operand
 unfoldable pub code : ℕ → ℕ → List ℕ
 code op b = row instructionKind op b 0 0
 
+-- instructions by name; BorrowFld by type and field
+unfoldable pub pop : List ℕ
+pop = code opPop 0
+
 unfoldable pub loadConst : ℕ → List ℕ
-loadConst d = row instructionKind 1 0 0 d
+loadConst d = row instructionKind opLoadConst 0 0 d
+
+unfoldable pub mvLoc : ℕ → List ℕ
+mvLoc l = code opMvLoc l
+
+unfoldable pub cpLoc : ℕ → List ℕ
+cpLoc l = code opCpLoc l
+
+unfoldable pub stLoc : ℕ → List ℕ
+stLoc l = code opStLoc l
+
+unfoldable pub borrowLoc : ℕ → List ℕ
+borrowLoc l = code opBorrowLoc l
+
+unfoldable pub readRef : List ℕ
+readRef = code opReadRef 0
+
+unfoldable pub writeRef : List ℕ
+writeRef = code opWriteRef 0
+
+unfoldable pub borrowFld : ℕ → ℕ → List ℕ
+borrowFld y j = code opBorrowFld (y * 8 + j)
+
+unfoldable pub pack : ℕ → List ℕ
+pack y = code opPack y
+
+unfoldable pub unpack : ℕ → List ℕ
+unpack y = code opUnpack y
+
+unfoldable pub moveTo : ℕ → List ℕ
+moveTo y = code opMoveTo y
+
+unfoldable pub moveFrom : ℕ → List ℕ
+moveFrom y = code opMoveFrom y
+
+unfoldable pub borrowGlobal : ℕ → List ℕ
+borrowGlobal y = code opBorrowGlobal y
+
+unfoldable pub exists : ℕ → List ℕ
+exists y = code opExists y
+
+unfoldable pub callProcedure : ℕ → List ℕ
+callProcedure p = code opCall p
+
+unfoldable pub ret : List ℕ
+ret = code opRet 0
+
+unfoldable pub branch : ℕ → List ℕ
+branch i = code opBranch i
+
+unfoldable pub branchCond : ℕ → List ℕ
+branchCond i = code opBranchCond i
+
+-- Op, by operand
+unfoldable pub add : List ℕ
+add = code opOp 0
+
+unfoldable pub subtract : List ℕ
+subtract = code opOp 1
+
+unfoldable pub equal : List ℕ
+equal = code opOp 2
+
+unfoldable pub less : List ℕ
+less = code opOp 3
 
 -- rows of a call list: a call of a procedure with a budget, and an argument
 unfoldable pub call : ℕ → ℕ → List ℕ
@@ -63,18 +134,18 @@ argument d = row argumentRow 0 0 0 d
 
 -- S: a credit of 500 kilos is packed and moved to an address
 unfoldable pub rowsS : List (List ℕ)
-rowsS = trusted ∷ type ∷ guarded ∷ public ∷ parameter 0 0 ∷ loadConst 500 ∷ code 9 0 ∷ code 2 0 ∷ code 11 0 ∷ code 16 0 ∷ []
+rowsS = trusted ∷ type ∷ guarded ∷ public ∷ parameter 0 0 ∷ loadConst 500 ∷ pack 0 ∷ mvLoc 0 ∷ moveTo 0 ∷ ret ∷ []
 
 -- T: S, and a procedure that hands out a reference to the guarded kilos
 unfoldable pub rowsT : List (List ℕ)
-rowsT = rowsS ++ (public ∷ parameter 3 0 ∷ result 2 0 ∷ code 2 0 ∷ code 8 0 ∷ code 16 0 ∷ [])
+rowsT = rowsS ++ (public ∷ parameter 3 0 ∷ result 2 0 ∷ mvLoc 0 ∷ borrowFld 0 0 ∷ ret ∷ [])
 
 -- a loop in which a reference to the guarded kilos moves on by one local each time round, and the last local is given to a procedure
 unfoldable pub rowsRound : List (List ℕ)
 rowsRound =
     trusted ∷ type ∷ guarded ∷ public ∷ parameter 3 0 ∷ parameter 2 0 ∷ parameter 2 0 ∷ parameter 2 0
-    ∷ code 3 2 ∷ code 4 3 ∷ code 3 1 ∷ code 4 2 ∷ code 3 0 ∷ code 8 0 ∷ code 4 1 ∷ code 3 3 ∷ code 15 1 ∷ code 17 0
-    ∷ private ∷ parameter 2 0 ∷ code 16 0 ∷ []
+    ∷ cpLoc 2 ∷ stLoc 3 ∷ cpLoc 1 ∷ stLoc 2 ∷ cpLoc 0 ∷ borrowFld 0 0 ∷ stLoc 1 ∷ cpLoc 3 ∷ callProcedure 1 ∷ branch 0
+    ∷ private ∷ parameter 2 0 ∷ ret ∷ []
 
 -- rows with row i replaced
 unfoldable pub with-row : ℕ → List ℕ → List (List ℕ) → List (List ℕ)
@@ -88,3 +159,174 @@ without-row i rows = take i rows ++ drop (suc i) rows
 unfoldable pub times : ℕ → List ℕ → List (List ℕ)
 times zero r = []
 times (suc n) r = r ∷ times n r
+
+-- Tables for leaks. A procedure of a trusted module with a reference to a credit, a reference to a number and a number; its code starts at row 7
+unfoldable pub rowsLent : List (List ℕ)
+rowsLent = trusted ∷ type ∷ guarded ∷ public ∷ parameter 3 0 ∷ parameter 2 0 ∷ parameter 0 0 ∷ []
+
+-- after it, procedures that take one reference to a number, and two
+unfoldable pub rowsTakesOne : List (List ℕ)
+rowsTakesOne = private ∷ parameter 2 0 ∷ ret ∷ []
+
+unfoldable pub rowsTakesTwo : List (List ℕ)
+rowsTakesTwo = private ∷ parameter 2 0 ∷ parameter 2 0 ∷ ret ∷ []
+
+-- a mark that comes on the way that does not jump: both ways meet at row 12, the Call is row 13
+unfoldable pub rowsMarkedOnFallThrough : List (List ℕ)
+rowsMarkedOnFallThrough =
+    rowsLent
+    ++ (mvLoc 2 ∷ branchCond 5
+    ∷ cpLoc 0 ∷ borrowFld 0 0 ∷ stLoc 1
+    ∷ mvLoc 1 ∷ callProcedure 1 ∷ ret ∷ rowsTakesOne)
+
+-- a mark that comes on the way that jumps: both ways meet at row 13, the Call is row 14
+unfoldable pub rowsMarkedOnJump : List (List ℕ)
+rowsMarkedOnJump =
+    rowsLent
+    ++ (mvLoc 2 ∷ branchCond 3
+    ∷ branch 6
+    ∷ cpLoc 0 ∷ borrowFld 0 0 ∷ stLoc 1
+    ∷ mvLoc 1 ∷ callProcedure 1 ∷ ret ∷ rowsTakesOne)
+
+-- a marked local, overwritten on the way that does not jump (rows 12 and 13); the ways meet at row 14, the Call is row 15. Row 10 takes the number by `takes`
+unfoldable pub rowsOverwrittenOnce : (ℕ → List ℕ) → List (List ℕ)
+rowsOverwrittenOnce takes =
+    rowsLent
+    ++ (cpLoc 0 ∷ borrowFld 0 0 ∷ stLoc 1
+    ∷ takes 2 ∷ branchCond 7
+    ∷ borrowLoc 2 ∷ stLoc 1
+    ∷ mvLoc 1 ∷ callProcedure 1 ∷ ret ∷ rowsTakesOne)
+
+-- a marked local, overwritten on both ways
+unfoldable pub rowsOverwrittenTwice : List (List ℕ)
+rowsOverwrittenTwice =
+    rowsLent
+    ++ (cpLoc 0 ∷ borrowFld 0 0 ∷ stLoc 1
+    ∷ cpLoc 2 ∷ branchCond 8
+    ∷ borrowLoc 2 ∷ stLoc 1 ∷ branch 10
+    ∷ borrowLoc 2 ∷ stLoc 1
+    ∷ mvLoc 1 ∷ callProcedure 1 ∷ ret ∷ rowsTakesOne)
+
+-- Tables that are run. The four Ops, one in each procedure, over two arguments: add at row 7, subtract at row 15, equal, less
+unfoldable pub calculates : List ℕ → List (List ℕ)
+calculates op = public ∷ parameter 0 0 ∷ parameter 0 0 ∷ result 0 0 ∷ mvLoc 0 ∷ mvLoc 1 ∷ op ∷ ret ∷ []
+
+unfoldable pub rowsOps : List (List ℕ)
+rowsOps = guest ∷ calculates add ++ calculates subtract ++ calculates equal ++ calculates less
+
+-- a loop that adds up n, n - 1, .. 1: 2 instructions before it, 11 each time round, 4 at the end; Ret is row 10
+unfoldable pub rowsLoop : List (List ℕ)
+rowsLoop =
+    guest ∷ public ∷ parameter 0 0 ∷ local 0 0 ∷ result 0 0
+    ∷ loadConst 0 ∷ stLoc 1
+    ∷ cpLoc 0 ∷ branchCond 6
+    ∷ mvLoc 1 ∷ ret
+    ∷ mvLoc 1 ∷ cpLoc 0 ∷ add ∷ stLoc 1
+    ∷ mvLoc 0 ∷ loadConst 1 ∷ subtract ∷ stLoc 0
+    ∷ branch 2 ∷ []
+
+-- S, and a procedure 1 that withdraws the credit of an address, if there is one, breaks it up and gives its kilos, else 0
+unfoldable pub rowsClosed : List (List ℕ)
+rowsClosed =
+    rowsS
+    ++ (public ∷ parameter 0 0 ∷ result 0 0
+    ∷ cpLoc 0 ∷ exists 0 ∷ branchCond 5
+    ∷ loadConst 0 ∷ ret
+    ∷ mvLoc 0 ∷ moveFrom 0 ∷ unpack 0 ∷ ret ∷ [])
+
+-- S; procedure 1 writes the kilos n of an address and then gives 100 - n (row 21); procedure 2 reads the kilos of an address (BorrowGlobal is row 27)
+unfoldable pub rowsWritten : List (List ℕ)
+rowsWritten =
+    rowsS
+    ++ (public ∷ parameter 0 0 ∷ parameter 0 0 ∷ result 0 0
+    ∷ cpLoc 1 ∷ mvLoc 0 ∷ borrowGlobal 0 ∷ borrowFld 0 0 ∷ writeRef
+    ∷ loadConst 100 ∷ mvLoc 1 ∷ subtract ∷ ret
+    ∷ public ∷ parameter 0 0 ∷ result 0 0
+    ∷ mvLoc 0 ∷ borrowGlobal 0 ∷ borrowFld 0 0 ∷ readRef ∷ ret ∷ [])
+
+-- two credits are published, of 1 and 2 kilos under 7 and 8; then 3 is written to the second
+unfoldable pub rowsTwo : List (List ℕ)
+rowsTwo =
+    trusted ∷ type ∷ guarded ∷ public
+    ∷ loadConst 1 ∷ pack 0 ∷ loadConst 7 ∷ moveTo 0
+    ∷ loadConst 2 ∷ pack 0 ∷ loadConst 8 ∷ moveTo 0
+    ∷ loadConst 3 ∷ loadConst 8 ∷ borrowGlobal 0 ∷ borrowFld 0 0 ∷ writeRef ∷ ret ∷ []
+
+-- type 0 has a number, type 1 a number and a record of type 0, type 2 records of types 1 and 0. One of each field is made and published; then 9 is
+-- written to the number that stands two records deep
+unfoldable pub rowsNested : List (List ℕ)
+rowsNested =
+    guest ∷ type ∷ number ∷ type ∷ number ∷ recordField 0 ∷ type ∷ recordField 1 ∷ recordField 0 ∷ public ∷ parameter 0 0
+    ∷ loadConst 8 ∷ loadConst 5 ∷ pack 0 ∷ pack 1
+    ∷ loadConst 6 ∷ pack 0 ∷ pack 2
+    ∷ cpLoc 0 ∷ moveTo 2
+    ∷ loadConst 9 ∷ mvLoc 0 ∷ borrowGlobal 2 ∷ borrowFld 2 0 ∷ borrowFld 1 1 ∷ borrowFld 0 0 ∷ writeRef ∷ ret ∷ []
+
+-- a trusted module issues a credit (procedure 0), writes 1 to its kilos (1), publishes it (2), and withdraws and breaks it up (3, MoveFrom is row 26);
+-- a guest lets a credit be issued, holds it in a local, and lets it be written and published (4), and lets one be withdrawn twice (5)
+unfoldable pub rowsGuest : List (List ℕ)
+rowsGuest =
+    trusted ∷ type ∷ guarded
+    ∷ public ∷ result 1 0 ∷ loadConst 500 ∷ pack 0 ∷ ret
+    ∷ public ∷ parameter 3 0 ∷ loadConst 1 ∷ mvLoc 0 ∷ borrowFld 0 0 ∷ writeRef ∷ ret
+    ∷ public ∷ parameter 1 0 ∷ parameter 0 0 ∷ mvLoc 0 ∷ mvLoc 1 ∷ moveTo 0 ∷ ret
+    ∷ public ∷ parameter 0 0 ∷ result 0 0 ∷ mvLoc 0 ∷ moveFrom 0 ∷ unpack 0 ∷ ret
+    ∷ guest
+    ∷ public ∷ parameter 0 0 ∷ local 1 0
+    ∷ callProcedure 0 ∷ stLoc 1 ∷ borrowLoc 1 ∷ callProcedure 1 ∷ mvLoc 1 ∷ mvLoc 0 ∷ callProcedure 2 ∷ ret
+    ∷ public ∷ parameter 0 0
+    ∷ cpLoc 0 ∷ callProcedure 3 ∷ pop ∷ mvLoc 0 ∷ callProcedure 3 ∷ pop ∷ ret ∷ []
+
+-- references: a local that is emptied and filled again with one more, read through a reference made before
+unfoldable pub rowsRefilled : List (List ℕ)
+rowsRefilled =
+    guest ∷ public ∷ parameter 0 0 ∷ local 2 0 ∷ result 0 0
+    ∷ borrowLoc 0 ∷ stLoc 1
+    ∷ mvLoc 0 ∷ loadConst 1 ∷ add ∷ stLoc 0
+    ∷ mvLoc 1 ∷ readRef ∷ ret ∷ []
+
+-- a local that stays empty, read through a reference made before (row 7)
+unfoldable pub rowsEmptied : List (List ℕ)
+rowsEmptied = guest ∷ public ∷ parameter 0 0 ∷ result 0 0 ∷ borrowLoc 0 ∷ mvLoc 0 ∷ pop ∷ readRef ∷ ret ∷ []
+
+-- a local of a frame that has returned, read through the reference that it returned (row 4)
+unfoldable pub rowsReturned : List (List ℕ)
+rowsReturned =
+    guest ∷ public ∷ result 0 0 ∷ callProcedure 1 ∷ readRef ∷ ret
+    ∷ private ∷ local 0 0 ∷ result 2 0 ∷ loadConst 5 ∷ stLoc 0 ∷ borrowLoc 0 ∷ ret ∷ []
+
+-- a reference to the kilos of a credit that is broken up; another credit is made in its room; the reference is written through (row 19)
+unfoldable pub rowsStale : List (List ℕ)
+rowsStale =
+    trusted ∷ type ∷ guarded ∷ public ∷ parameter 0 0 ∷ local 1 0 ∷ local 2 0
+    ∷ loadConst 500 ∷ pack 0 ∷ stLoc 1
+    ∷ borrowLoc 1 ∷ borrowFld 0 0 ∷ stLoc 2
+    ∷ mvLoc 1 ∷ unpack 0 ∷ pack 0 ∷ stLoc 1
+    ∷ loadConst 1 ∷ mvLoc 2 ∷ writeRef
+    ∷ mvLoc 1 ∷ mvLoc 0 ∷ moveTo 0 ∷ ret ∷ []
+
+-- limits: a procedure that calls itself n times, one frame in the other (the Call is row 9)
+unfoldable pub rowsDeep : List (List ℕ)
+rowsDeep =
+    guest ∷ public ∷ parameter 0 0
+    ∷ cpLoc 0 ∷ branchCond 3
+    ∷ ret
+    ∷ mvLoc 0 ∷ loadConst 1 ∷ subtract ∷ callProcedure 0 ∷ ret ∷ []
+
+-- type 0 has no fields, type 1 eight of type 0 (9 records, made by procedure 1), type 2 eight of type 1 (73 records, made by procedure 2). Procedure 0
+-- makes one of type 2, six of type 1 and one of type 0, 73 + 54 + 1 = 128 records, and then packs them all (row 39)
+unfoldable pub rowsMany : List (List ℕ)
+rowsMany =
+    guest ∷ type ∷ type ∷ times 8 (recordField 0) ++ (type ∷ times 8 (recordField 1)) ++ (type ∷ recordField 2 ∷ times 6 (recordField 1) ++ (recordField 0
+    ∷ public ∷ parameter 0 0 ∷ callProcedure 2 ∷ times 6 (callProcedure 1))) ++ (pack 0 ∷ pack 3 ∷ mvLoc 0 ∷ moveTo 3 ∷ ret
+    ∷ private ∷ result 1 1 ∷ times 8 (pack 0)) ++ (pack 1 ∷ ret
+    ∷ private ∷ result 1 2 ∷ times 8 (callProcedure 1)) ++ (pack 2 ∷ ret ∷ [])
+
+-- records are published under n, n - 1, .. 1 (MoveTo is row 6), and then another under 1 (MoveTo is row 15)
+unfoldable pub rowsFull : List (List ℕ)
+rowsFull =
+    guest ∷ type ∷ public ∷ parameter 0 0
+    ∷ pack 0 ∷ cpLoc 0 ∷ moveTo 0
+    ∷ mvLoc 0 ∷ loadConst 1 ∷ subtract ∷ stLoc 0
+    ∷ cpLoc 0 ∷ branchCond 0
+    ∷ pack 0 ∷ loadConst 1 ∷ moveTo 0 ∷ ret ∷ []
