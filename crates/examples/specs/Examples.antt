@@ -8,7 +8,7 @@ use Rattle.table.specs.declared.Verdict.{Verdict}
 use Rattle.table.specs.declared.Verdict.the-variants.{Accepted, Refused}
 use Rattle.rules.specs.Ascii.{ascii}
 use Rattle.rules.specs.Run.{Ran, minText}
-use Rattle.examples.specs.Tables.{row, table, trusted, guest, type, number, guarded, public, private, parameter, local, result, code, pop, loadConst, mvLoc, cpLoc, stLoc, borrowFld, readRef, pack, moveTo, callProcedure, ret, branch, branchCond, subtract, call, argument, rowsS, rowsT, rowsRound, with-row, without-row, times, rowsLent, rowsTakesTwo, rowsMarkedOnFallThrough, rowsMarkedOnJump, rowsOverwrittenOnce, rowsOverwrittenTwice, rowsOps, rowsLoop, rowsClosed, rowsWritten, rowsTwo, rowsNested, rowsGuest, rowsRefilled, rowsEmptied, rowsReturned, rowsStale, rowsDeep, rowsMany, rowsFull}
+use Rattle.examples.specs.Tables.{row, table, trusted, guest, type, number, guarded, public, private, parameter, local, result, code, pop, loadConst, mvLoc, cpLoc, stLoc, borrowFld, readRef, pack, moveTo, callProcedure, ret, branch, branchCond, subtract, call, argument, rowsS, rowsT, rowsRound, with-row, without-row, times, rowsLent, rowsTakesTwo, rowsMarkedOnFallThrough, rowsMarkedOnJump, rowsOverwrittenOnce, rowsOverwrittenTwice, rowsOps, rowsLoop, rowsClosed, rowsWritten, rowsTwo, rowsNested, rowsGuest, callsGuest, rowsRefilled, rowsEmptied, rowsReturned, rowsStale, rowsDeep, rowsMany, rowsFull}
 
 -- an example: the bytes of a table and its verdict; or a table, a call list and the length of a text buffer, with the answer and the text
 pub data Example : Type 0 where
@@ -160,7 +160,7 @@ runningCalls =
     -- nested records
     ∷ prints (table rowsNested) (table (call 0 100 ∷ argument 7 ∷ [])) (line "call 0 done" ++ line "store 2 7 (1 8 (0 9)) (0 6)")
     -- a guest holds a credit and calls the trusted module; 34: withdrawn twice in one call
-    ∷ prints (table rowsGuest) (table (call 4 100 ∷ argument 7 ∷ call 5 100 ∷ argument 7 ∷ [])) (line "call 0 done" ++ line "call 1 stop 34 row 26" ++ line "store 0 7 1")
+    ∷ prints (table rowsGuest) (table callsGuest) (line "call 0 done" ++ line "call 1 stop 34 row 26" ++ line "store 0 7 1")
     -- references to locals: filled again; 35: empty, and of a frame that has returned
     ∷ prints (table rowsRefilled) (table (call 0 100 ∷ argument 41 ∷ [])) (line "call 0 done 42")
     ∷ prints (table rowsEmptied) (table (call 0 100 ∷ argument 41 ∷ [])) (line "call 0 stop 35 row 7")

@@ -277,6 +277,10 @@ rowsGuest =
     ∷ public ∷ parameter 0 0
     ∷ cpLoc 0 ∷ callProcedure 3 ∷ pop ∷ mvLoc 0 ∷ callProcedure 3 ∷ pop ∷ ret ∷ []
 
+-- calls of the guest: a credit is published under 7, and then withdrawn twice
+unfoldable pub callsGuest : List (List ℕ)
+callsGuest = call 4 100 ∷ argument 7 ∷ call 5 100 ∷ argument 7 ∷ []
+
 -- references: a local that is emptied and filled again with one more, read through a reference made before
 unfoldable pub rowsRefilled : List (List ℕ)
 rowsRefilled =

@@ -1,0 +1,165 @@
+-- What demand 3 speaks of happens in the history of one list over one table, by computation.
+use Prim.Native.Nat.{ℕ, zero, suc, _≤_}
+use mathlib.Core.Path.{_≡_, refl, ap}
+use mathlib.Core.Bool.{Bool, true, false, false≢true}
+use mathlib.Core.List.{List, [], _∷_, List·Memᴰ·not-nil}
+use mathlib.Core.Option.{Option, none, some}
+use lib.Dec.{eqb}
+use lib.ListN.{take, drop}
+use native.Mathlib.Omega.{arith}
+use Rattle.reach.specs.Reach.{here as first}
+use Rattle.rules.specs.Machine.{Value, num, obj, toField, Cell, gone, here, Entry, entry, Frame, frame, State, state, next}
+use Rattle.rules.specs.History.{base, Event, moment}
+use Rattle.rules.specs.Run.{historyOf}
+use Rattle.rules.specs.Words.{operand, Exists}
+use Rattle.rules.specs.Claim.{none-left, also}
+use Rattle.examples.specs.Speaks.{Speaks, StopsAfterChange, Happens, Makes, BreaksUp, Publishes, Withdraws, Changes, HoldsAboveGuest, tableGuest, listGuest}
+use Rattle.examples.proofs.Rules.{rules}
+
+-- whether a cell holds a record
+isHere : Option Cell → Bool
+isHere none = false
+isHere (some (gone y)) = false
+isHere (some (here y vs)) = true
+
+-- the credit, of so many kilos, as the one record; it is not there at first, nor after it is broken up
+abbrev credit : ℕ → List Cell
+credit kilos = here 0 (num kilos ∷ []) ∷ []
+
+not-yet : ¬ (Exists [] 0 0)
+unfolding isHere
+not-yet x = false≢true (ap isHere (x .1))
+
+not-since : ¬ (Exists (gone 0 ∷ []) 0 0)
+unfolding isHere
+not-since x = false≢true (ap isHere (x .1))
+
+-- the guest's frames that wait at instruction i: of procedure 4, frame 0, and of procedure 5, frame 4
+abbrev issuing : ℕ → List (Option Value) → List Frame
+issuing i ls = frame 0 4 i [] ls ∷ []
+
+abbrev redeeming : List Frame
+redeeming = frame 4 5 1 [] (some (num 7) ∷ []) ∷ []
+
+-- Pack in procedure 0
+made : Happens tableGuest listGuest Makes
+unfolding rules tableGuest listGuest
+made = (
+  2,
+  moment (state (frame 1 0 1 (num 500 ∷ []) [] ∷ issuing 0 (some (num 7) ∷ none ∷ [])) [] [] 2) 6
+      (next (state (frame 1 0 2 (obj 0 0 ∷ []) [] ∷ issuing 0 (some (num 7) ∷ none ∷ [])) (credit 500) [] 2)),
+  refl,
+  (0, 0, (num 500 ∷ [], refl), not-yet),
+)
+
+-- WriteRef in procedure 1
+abbrev writing : Event
+writing =
+    moment (state (frame 2 1 3 (toField 0 0 0 ∷ num 1 ∷ []) (none ∷ []) ∷ issuing 3 (some (num 7) ∷ some (obj 0 0) ∷ [])) (credit 500) [] 3) 13
+    (next (state (frame 2 1 4 [] (none ∷ []) ∷ issuing 3 (some (num 7) ∷ some (obj 0 0) ∷ [])) (credit 1) [] 3))
+
+held : Happens tableGuest listGuest (HoldsAboveGuest tableGuest)
+unfolding rules tableGuest listGuest
+held = (
+  10,
+  writing,
+  refl,
+  (refl, (toField 0 0 0, operand (first refl), (0, 0, 0, refl, refl)), (frame 0 4 3 [] (some (num 7) ∷ some (obj 0 0) ∷ []), first refl, refl)),
+)
+
+changed : Happens tableGuest listGuest (Changes tableGuest)
+unfolding rules tableGuest listGuest
+changed = (
+  10,
+  writing,
+  refl,
+  (
+    0,
+    0,
+    0,
+    500,
+    1,
+    refl,
+    record { fields = num 500 ∷ []; exists = refl; number = refl },
+    record { fields = num 1 ∷ []; exists = refl; number = refl },
+    λ e. false≢true (ap (eqb 1) e),
+  ),
+)
+
+-- MoveTo in procedure 2
+published : Happens tableGuest listGuest Publishes
+unfolding rules tableGuest listGuest
+published = (
+  17,
+  moment (state (frame 3 2 2 (num 7 ∷ obj 0 0 ∷ []) (none ∷ none ∷ []) ∷ issuing 6 (none ∷ none ∷ [])) (credit 1) [] 4) 20
+      (next (state (frame 3 2 3 [] (none ∷ none ∷ []) ∷ issuing 6 (none ∷ none ∷ [])) (credit 1) (entry 0 7 0 ∷ []) 4)),
+  refl,
+  (0, 7, 0, first refl, List·Memᴰ·not-nil),
+)
+
+-- MoveFrom in procedure 3
+abbrev before-withdrawing : State
+before-withdrawing = state (frame 5 3 1 (num 7 ∷ []) (none ∷ []) ∷ redeeming) (credit 1) (entry 0 7 0 ∷ []) 6
+
+abbrev after-withdrawing : State
+after-withdrawing = state (frame 5 3 2 (obj 0 0 ∷ []) (none ∷ []) ∷ redeeming) (credit 1) [] 6
+
+withdrawn : Happens tableGuest listGuest Withdraws
+unfolding rules tableGuest listGuest
+withdrawn = (24, moment before-withdrawing 26 (next after-withdrawing), refl, (0, 7, 0, first refl, List·Memᴰ·not-nil))
+
+-- Unpack in procedure 3
+broken-up : Happens tableGuest listGuest BreaksUp
+unfolding rules tableGuest listGuest
+broken-up = (
+  25,
+  moment after-withdrawing 27 (next (state (frame 5 3 3 (num 1 ∷ []) (none ∷ []) ∷ redeeming) (gone 0 ∷ []) [] 6)),
+  refl,
+  (0, 0, (num 1 ∷ [], refl), not-since),
+)
+
+-- whether there is an entry
+some-entry : List Entry → Bool
+some-entry [] = false
+some-entry (e ∷ es) = true
+
+-- nothing lies past the one record
+no-more : (id y : ℕ) → 1 ≤ id → ¬ (Exists (credit 1) id y)
+unfolding isHere
+no-more zero y h x = absurd (omega (arith, h))
+no-more (suc id) y h x = false≢true (ap isHere (x .1))
+
+-- the second MoveFrom finds no key
+stops : StopsAfterChange tableGuest listGuest
+unfolding rules tableGuest listGuest some-entry
+stops = record {
+  earlier = take 24 (historyOf tableGuest listGuest);
+  here = before-withdrawing;
+  row = 26;
+  changed = after-withdrawing;
+  meanwhile = take 7 (drop 25 (historyOf tableGuest listGuest));
+  before = base (credit 1) (entry 0 7 0 ∷ []) 4;
+  last = state (frame 6 3 1 (num 7 ∷ []) (none ∷ []) ∷ frame 4 5 4 [] (none ∷ []) ∷ []) (gone 0 ∷ []) [] 7;
+  lastRow = 26;
+  number = 34;
+  after = base (credit 1) (entry 0 7 0 ∷ []) 7;
+  later = [];
+  in-history = refl;
+  same-call = also tt (also tt (also tt (also tt (also tt (also tt (also tt none-left))))));
+  differs = λ e. false≢true (ap some-entry e);
+  again = (refl, (λ id c e. e), no-more);
+}
+
+pub speaks : Speaks tableGuest listGuest
+unfolding rules tableGuest listGuest
+speaks = record {
+  accepted = refl;
+  good = refl;
+  made = made;
+  held = held;
+  changed = changed;
+  published = published;
+  withdrawn = withdrawn;
+  broken-up = broken-up;
+  stops = stops;
+}

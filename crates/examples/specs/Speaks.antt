@@ -1,0 +1,121 @@
+-- What demand 3 speaks of does happen: said of the history of a list of calls over an accepted table, in the words of demand 3, with such a table and list.
+use Prim.Native.Nat.{ℕ}
+use mathlib.Core.Path.{_≡_}
+use mathlib.Core.Bool.{Bool, true, false}
+use mathlib.Core.List.{List, [], _∷_, _++_}
+use mathlib.Core.Logic.{_≢_}
+use mathlib.Core.Option.{some}
+use lib.ListN.{getElem? as nth}
+use Rattle.table.specs.declared.Verdict.the-variants.{Accepted}
+use Rattle.table.specs.Rows.{rowCount}
+use Rattle.table.specs.Index.{indexOf}
+use Rattle.judging.specs.Judging.{judgeOf}
+use Rattle.reach.specs.Reach.{Mem}
+use Rattle.rules.specs.Machine.{Value, Cell, Entry, Frame, frame, State, state, Outcome, next, finished, stopped, stuck}
+use Rattle.rules.specs.Calls.{listOf}
+use Rattle.rules.specs.History.{Base, base, Event, moment, ended}
+use Rattle.rules.specs.Run.{historyOf}
+use Rattle.rules.specs.Words.{guest, guardedField, GuardedReference, Holds, Exists, NumberIn, IsEntry}
+use Rattle.rules.specs.Claim.{All, Restored}
+use Rattle.examples.specs.Tables.{table, rowsGuest, callsGuest}
+
+-- The words of demand 3 that ask about a table, at the table t: a guest's frame or not, a guarded field, a reference to one, what a stop restores
+abbrev pub OfGuest : List ℕ → Frame → Bool → Type 0
+OfGuest t (frame id p i ops ls) answer = guest t (indexOf t) p ≡ answer
+
+abbrev pub Guarded : List ℕ → ℕ → ℕ → Type 0
+Guarded t y j = guardedField t (indexOf t) y j ≡ true
+
+abbrev pub ToGuarded : List ℕ → Value → Type 0
+ToGuarded t v = GuardedReference t (indexOf t) v
+
+abbrev pub SameStore : List ℕ → Base → Base → Type 0
+SameStore t before after = Restored t (indexOf t) before after
+
+-- What an event can be. A step: something holds of the records and the store before it and of those after it
+abbrev pub Step : (List Cell → List Entry → List Cell → List Entry → Type 0) → Event → Type 0
+Step Q (moment (state fs rs st n) row (next (state fs′ rs′ st′ n′))) = Q rs st rs′ st′
+Step Q (moment (state fs rs st n) row (finished vs (state fs′ rs′ st′ n′))) = Q rs st rs′ st′
+Step Q (moment s row (stopped k)) = ⊥
+Step Q (moment s row stuck) = ⊥
+Step Q (ended before s row o after) = ⊥
+
+-- it makes a record, breaks one up, publishes one, withdraws one
+abbrev pub Makes : Event → Type 0
+Makes = Step (λ (rs : List Cell) (st : List Entry) (rs′ : List Cell) (st′ : List Entry). (id y : ℕ) × Exists rs′ id y × ¬ (Exists rs id y))
+
+abbrev pub BreaksUp : Event → Type 0
+BreaksUp = Step (λ (rs : List Cell) (st : List Entry) (rs′ : List Cell) (st′ : List Entry). (id y : ℕ) × Exists rs id y × ¬ (Exists rs′ id y))
+
+abbrev pub Publishes : Event → Type 0
+Publishes = Step (λ (rs : List Cell) (st : List Entry) (rs′ : List Cell) (st′ : List Entry). (y a id : ℕ) × IsEntry st′ y a id × ¬ (IsEntry st y a id))
+
+abbrev pub Withdraws : Event → Type 0
+Withdraws = Step (λ (rs : List Cell) (st : List Entry) (rs′ : List Cell) (st′ : List Entry). (y a id : ℕ) × IsEntry st y a id × ¬ (IsEntry st′ y a id))
+
+-- it changes the number in a guarded field of a record
+abbrev pub Changes : List ℕ → Event → Type 0
+Changes t = Step (λ (rs : List Cell) (st : List Entry) (rs′ : List Cell) (st′ : List Entry).
+    (id y j x x′ : ℕ) × Guarded t y j × NumberIn rs id y j x × NumberIn rs′ id y j x′ × (x ≢ x′))
+
+-- A moment at which the running frame is a trusted module's and holds a reference to a guarded field, while a guest's frame waits below it
+abbrev pub HoldsAboveGuest : List ℕ → Event → Type 0
+HoldsAboveGuest t (moment (state (f ∷ fs) rs st n) row o) =
+    OfGuest t f false × ((v : Value) × Holds f v × ToGuarded t v) × ((g : Frame) × Mem g fs × OfGuest t g true)
+HoldsAboveGuest t (moment (state [] rs st n) row o) = ⊥
+HoldsAboveGuest t (ended before s row o after) = ⊥
+
+-- any moment of a call, not its end
+abbrev pub IsMoment : Event → Type 0
+IsMoment (moment s row o) = Unit {0}
+IsMoment (ended before s row o after) = ⊥
+
+-- the store of a state, and of a call's beginning
+abbrev pub storeIn : State → List Entry
+storeIn (state fs rs st n) = st
+
+abbrev pub storeOf : Base → List Entry
+storeOf (base rs st n) = st
+
+-- over a table t, in the history of a list l
+module _ (t l : List ℕ) where
+  -- there is such an event
+  abbrev pub Happens : (Event → Type 0) → Type 0
+  Happens Q = (k : ℕ) × (e : Event) × (nth (historyOf t l) k ≡ some e) × Q e
+
+  -- a step leaves another store than that of its call's beginning; the call stops later, and the store is that of the beginning again
+  pub record StopsAfterChange : Type 0 where
+    pub earlier : List Event
+    pub here : State
+    pub row : ℕ
+    pub changed : State
+    pub meanwhile : List Event
+    pub before : Base
+    pub last : State
+    pub lastRow : ℕ
+    pub number : ℕ
+    pub after : Base
+    pub later : List Event
+    pub in-history : historyOf t l ≡ earlier ++ (moment here row (next changed) ∷ meanwhile ++ (ended before last lastRow (stopped number) after ∷ later))
+    pub same-call : All IsMoment meanwhile
+    pub differs : storeIn changed ≢ storeOf before
+    pub again : SameStore t before after
+
+  -- the table is accepted and the list good, and all of this happens
+  pub record Speaks : Type 0 where
+    pub accepted : judgeOf t ≡ Accepted (rowCount t)
+    pub good : listOf t (indexOf t) l ≡ Accepted (rowCount l)
+    pub made : Happens Makes
+    pub held : Happens (HoldsAboveGuest t)
+    pub changed : Happens (Changes t)
+    pub published : Happens Publishes
+    pub withdrawn : Happens Withdraws
+    pub broken-up : Happens BreaksUp
+    pub stops : StopsAfterChange
+
+-- A table and a list: a guest lets a credit be issued, written and published, and then lets it be withdrawn twice, at which it stops
+unfoldable pub tableGuest : List ℕ
+tableGuest = table rowsGuest
+
+unfoldable pub listGuest : List ℕ
+listGuest = table callsGuest
