@@ -1,4 +1,5 @@
-// Reads table.bin and prints `accepted ROWS` or `refused N row R`. A missing file counts as no bytes.
+// Reads table.bin and prints `accepted ROWS` or `refused N row R`. A missing file counts as no bytes. Where reading fails no verdict is printed.
+use report::Reading;
 
 // One byte more than the longest table, so that a longer file is refused and not cut.
 const ROOM: usize = 32769;
@@ -10,12 +11,9 @@ fn main() {
 
 // Judges what the file holds, read into the buffer.
 fn judge_file(room: &mut [u8]) {
-    let file = os::open_read(b"table.bin");
-    if file < 0 {
-        report::print_verdict(judging::judge_table(&room[..0]));
+    let got = report::read_file(b"table.bin", room);
+    let Reading::Bytes(n) = got else {
         return;
-    }
-    let n = io::read_full(file, room);
-    libc::close(file);
+    };
     report::print_verdict(judging::judge_table(&room[..n]));
 }

@@ -40,14 +40,14 @@ fn run_next(file: i32, k: usize, table: &mut [u8], list: &mut [u8], text: &mut [
     if table.len() < n {
         return false;
     }
-    if io::read_full(file, &mut table[..n]) != n {
+    if !report::read_whole(file, &mut table[..n]) {
         return false;
     }
     let m = report::next_number(file, LIST + 1);
     if list.len() < m {
         return false;
     }
-    if io::read_full(file, &mut list[..m]) != m {
+    if !report::read_whole(file, &mut list[..m]) {
         return false;
     }
     let size = report::next_number(file, TEXT + 1);

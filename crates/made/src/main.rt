@@ -38,7 +38,7 @@ fn judge_next(file: i32, room: &mut [u8]) -> bool {
 
 // Fills the buffer from the file and judges it; false where the file ends before.
 fn judge_part(file: i32, table: &mut [u8]) -> bool {
-    if io::read_full(file, table) != table.len() {
+    if !report::read_whole(file, table) {
         return false;
     }
     report::print_verdict(judging::judge_table(table));
