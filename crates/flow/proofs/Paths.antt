@@ -37,6 +37,11 @@ nodesAt-mem w j (here e) = here (ap (λ (y : ℕ). w * j + y) e)
 nodesAt-mem w j (there m) = there (nodesAt-mem w j m)
 
 -- the nodes of some instructions and some places are those of one of each
+nodesOf-mem : (w : ℕ) {j x : ℕ} {js xs : List ℕ} → Mem j js → Mem x xs → Mem (w * j + x) (nodesOf w js xs)
+unfolding nodesOf
+nodesOf-mem w {xs = xs} (here {x = i} {xs = js} e) m = rw e (Memᴰ·append-left (nodesOf w js xs) (nodesAt-mem w i m))
+nodesOf-mem w {xs = xs} (there {x = i} g) m = Memᴰ·append-right (nodesAt w i xs) (nodesOf-mem w g m)
+
 nodesOf-inv : (w : ℕ) (js xs : List ℕ) {v : ℕ} → Mem v (nodesOf w js xs) → (j x : ℕ) × Mem j js × Mem x xs × (v ≡ w * j + x)
 unfolding nodesOf
 nodesOf-inv w (j ∷ js) xs m =
@@ -44,11 +49,6 @@ nodesOf-inv w (j ∷ js) xs m =
     (λ a. let r = nodesAt-inv w j xs a in (j, r .0, here refl, r .1, r .2))
     (λ b. let r = nodesOf-inv w js xs b in (r .0, r .1, there (r .2), r .3, r .4))
     (List·Memᴰ·append-cases (nodesAt w j xs) m)
-
-nodesOf-mem : (w : ℕ) {j x : ℕ} {js xs : List ℕ} → Mem j js → Mem x xs → Mem (w * j + x) (nodesOf w js xs)
-unfolding nodesOf
-nodesOf-mem w {xs = xs} (here {x = i} {xs = js} e) m = rw e (Memᴰ·append-left (nodesOf w js xs) (nodesAt-mem w i m))
-nodesOf-mem w {xs = xs} (there {x = i} g) m = Memᴰ·append-right (nodesAt w i xs) (nodesOf-mem w g m)
 
 -- the set of the nodes that paths start from
 first : ℕ → ℕ → List ℕ → List Bool

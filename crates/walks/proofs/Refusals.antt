@@ -35,28 +35,31 @@ record Tells (Cause : List ℕ → ProcedureEntry → ℕ → ℕ → Type 0) (f
 
 -- A pass over procedures that looks for such faults.
 module _ (Cause : List ℕ → ProcedureEntry → ℕ → ℕ → Type 0) (fault : ProcedureEntry → ℕ → ℕ) (t : List ℕ) (tells : Tells Cause fault t) where
-  -- where the pass refuses, no row that earns a number stands above, and none on this row is lower
-  pass-lowest : {number row : ℕ} → codePass fault (indexOf t) t ≡ Refused number row → Lowest (Earns Cause t) number row
-  pass-lowest {number} {row} e = go (pass-first fault t (indexOf t) e)
+  -- a row that earns a number stands below the first faulty one, or is that one and the number no lower
+  below-or-there : {number row : ℕ} → First fault t (indexOf t) number row → (number′ row′ : ℕ) → Earns Cause t number′ row′ → (row < row′) ⊎ ((row ≡ row′) × (number ≤ number′))
+  below-or-there {number} {row} f number′ row′ (q, i, there, inside, row-is, cause) =
+      go (decLt q (f .procedure)) (decLt (f .procedure) q) (decLt i (f .instruction)) (decLt (f .instruction) i) (tells .found q i number′ there inside cause)
     where
-      go : First fault t (indexOf t) number row → Lowest (Earns Cause t) number row
-      go f = record {
-        earned = (f .procedure, f .instruction, f .there, f .here .inside, f .here .row-is, rw (f .here .number-is) at (tells .shown (f .procedure) (f .instruction) (f .there) (f .here .inside) (f .here .faulty)));
-        first = first;
+      go : Dec (q < f .procedure) → Dec (f .procedure < q) → Dec (i < f .instruction) → Dec (f .instruction < i) → (fault (own t q) i ≡ 0 → ⊥) × (fault (own t q) i ≤ number′)
+          → (row < row′) ⊎ ((row ≡ row′) × (number ≤ number′))
+      go (yes b) c d e z = absurd (z .0 (f .above q b i inside))
+      go (no b) (yes c) d e z = inl (rw (f .here .row-is, row-is) (code-rises t (f .procedure) q (f .instruction) i c there (f .here .inside) inside))
+      go (no b) (no c) (yes d) e z = let s : q ≡ f .procedure = omega arith in absurd (z .0 (rw s (f .here .before i d)))
+      go (no b) (no c) (no d) (yes e) z = let s : q ≡ f .procedure = omega arith in inl (rw (f .here .row-is, row-is, s) (omega arith))
+      go (no b) (no c) (no d) (no e) z =
+          let s : q ≡ f .procedure = omega arith in
+          let r : i ≡ f .instruction = omega arith in
+          inr (rw (f .here .row-is, row-is, s, r) refl, rw (← f .here .number-is) (rw (s, r) at (z .1)))
+
+  -- the first faulty row is the lowest that earns a number
+  pass-lowest : {number row : ℕ} → codePass fault (indexOf t) t ≡ Refused number row → Lowest (Earns Cause t) number row
+  pass-lowest {number} {row} e =
+      let f = pass-first fault t (indexOf t) e in
+      let c = tells .shown (f .procedure) (f .instruction) (f .there) (f .here .inside) (f .here .faulty) in
+      record {
+        earned = (f .procedure, f .instruction, f .there, f .here .inside, f .here .row-is, rw (f .here .number-is) at c);
+        first = below-or-there f;
       }
-        where
-          first : (number′ row′ : ℕ) → Earns Cause t number′ row′ → (row < row′) ⊎ ((row ≡ row′) × (number ≤ number′))
-          first number′ row′ (q, i, there, inside, row-is, cause) = order (decLt q (f .procedure)) (decLt (f .procedure) q) (decLt i (f .instruction)) (decLt (f .instruction) i) (tells .found q i number′ there inside cause)
-            where
-              order : Dec (q < f .procedure) → Dec (f .procedure < q) → Dec (i < f .instruction) → Dec (f .instruction < i) → (fault (own t q) i ≡ 0 → ⊥) × (fault (own t q) i ≤ number′) → (row < row′) ⊎ ((row ≡ row′) × (number ≤ number′))
-              order (yes l) d b c z = absurd (z .0 (f .above q l i inside))
-              order (no l) (yes d) b c z = inl (rw (f .here .row-is, row-is) (code-rises t (f .procedure) q (f .instruction) i d there (f .here .inside) inside))
-              order (no l) (no d) b c z = same (let s : q ≡ f .procedure = omega arith in s) b c z
-                where
-                  same : q ≡ f .procedure → Dec (i < f .instruction) → Dec (f .instruction < i) → (fault (own t q) i ≡ 0 → ⊥) × (fault (own t q) i ≤ number′) → (row < row′) ⊎ ((row ≡ row′) × (number ≤ number′))
-                  same s (yes b) c z = absurd (z .0 (rw s (f .here .before i b)))
-                  same s (no b) (yes c) z = inl (rw (f .here .row-is, row-is, s) (omega arith))
-                  same s (no b) (no c) z = let r : i ≡ f .instruction = omega arith in inr (rw (f .here .row-is, row-is, s, r) refl, rw (← f .here .number-is) (rw (s, r) at (z .1)))
 
   -- a pass that accepts has no row that earns a number, and the converse
   pass-none : {n : ℕ} → codePass fault (indexOf t) t ≡ Accepted n → (number row : ℕ) → Earns Cause t number row → ⊥
