@@ -4,5 +4,7 @@ pub mod Depth
 pub mod Rows
 pub mod Guest
 pub mod Shown
+pub mod Lowest
+pub mod Causes
 pub mod Refusals
 pub mod Walks

@@ -1,8 +1,9 @@
 -- What the analyses find of a procedure is what walks show, both ways, in a table that the passes before locals accept.
 use Prim.Native.Nat.{ℕ, zero, suc, _+_, _-_, _<_, _≤_}
 use mathlib.Core.Path.{_≡_, refl, sym, ap, _∙_}
-use mathlib.Core.Bool.{Bool, true, false, not, _&&_, _||_, false≢true}
+use mathlib.Core.Bool.{Bool, true, false, not, _||_, false≢true}
 use mathlib.Core.List.{List}
+use mathlib.Mathlib.Data.Bool.Basic.{and-eq-true-eq-eq-true-and-eq-true as both}
 use native.Mathlib.Numerals.{add-one}
 use native.Mathlib.Decide.{decLt}
 use native.Mathlib.Omega.{arith}
@@ -38,12 +39,6 @@ use Rattle.walks.proofs.Regular.{regular, step-takes}
 use Rattle.walks.proofs.Follow.{nextBelow}
 use Rattle.walks.proofs.Depth.{Deep, deep, shallow, length-onto, good-same}
 use Rattle.walks.proofs.Rows.{own, entries-long, code-some, local-there}
-
--- of two that both hold, each holds
-pub both : (a b : Bool) → (a && b) ≡ true → (a ≡ true) × (b ≡ true)
-both true true e = (refl, refl)
-both true false e = absurd (false≢true e)
-both false b e = absurd (false≢true e)
 
 -- opcodes that need their local full name a local
 pub needs-local : (op : ℕ) → needsFull op ≡ true → getD names op nothing ≡ localNumber
@@ -122,7 +117,7 @@ module _ (t : List ℕ) (a : UpToOperands t) (q : ℕ) (there : q < indexOf t .p
     pub empty-shown : leavesEmpty t (own t q) l i ≡ true → ArrivesEmpty t (own t q) i l
     unfolding leavesEmpty
     empty-shown e =
-        let b = both (ltb l (localCount (own t q))) _ e in
+        let b = both (ltb l (localCount (own t q))) _ .0 e in
         let r = locals.empty-shown (nexts (codeOf t (own t q))) (stepAt t (indexOf t) nothingGiven (own t q)) (λ (l : ℕ). false)
         (parameterCount t (own t q)) (localCount (own t q)) l (ltb-true l _ (b .0)) (rowCount (codeOf t (own t q))) some (nextBelow (codeOf t (own t q))) i (rw nodes-same at (b .1)) in
         (r .0, r .2, r .3, r .4, r .5)
@@ -130,7 +125,7 @@ module _ (t : List ℕ) (a : UpToOperands t) (q : ℕ) (there : q < indexOf t .p
     pub full-shown : leavesFull t (own t q) l i ≡ true → ArrivesFull t (own t q) i l
     unfolding leavesFull
     full-shown e =
-        let b = both (ltb l (localCount (own t q))) _ e in
+        let b = both (ltb l (localCount (own t q))) _ .0 e in
         let r = locals.full-shown (nexts (codeOf t (own t q))) (stepAt t (indexOf t) nothingGiven (own t q)) (λ (l : ℕ). false)
         (parameterCount t (own t q)) (localCount (own t q)) l (ltb-true l _ (b .0)) (rowCount (codeOf t (own t q))) some (nextBelow (codeOf t (own t q))) i (rw nodes-same at (b .1)) in
         (r .0, r .2, r .3, r .4, r .5, r .6)

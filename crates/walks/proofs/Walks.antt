@@ -23,7 +23,8 @@ use Rattle.walks.specs.Refusals.{opcode, LocalCause, used-empty, stored-
 use Rattle.walks.proofs.Rows.{own}
 use Rattle.walks.proofs.Guest.{no-fresh}
 use Rattle.walks.proofs.Shown.{call-takes, ret-takes, flow-at, arrived}
-use Rattle.walks.proofs.Refusals.{needs-three, locals-accepted, leaks-accepted}
+use Rattle.walks.proofs.Causes.{needs-three}
+use Rattle.walks.proofs.Refusals.{locals-accepted, leaks-accepted}
 
 -- what is not empty is full
 slot-full : (s : Slot) → (s ≡ empty → ⊥) → (m : Bool) × (s ≡ full m)
