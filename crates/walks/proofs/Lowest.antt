@@ -15,6 +15,14 @@ use Rattle.program.proofs.Passes.{pass-fine, pass-clean, First, pass-first}
 use Rattle.walks.specs.Refusals.{Earns, Lowest}
 use Rattle.walks.proofs.Rows.{own, entries-long, inside-few, code-rises}
 
+-- there is one lowest row with one lowest number, so that `Lowest` leaves no choice
+pub lowest-one : (E : ℕ → ℕ → Type 0) {number row number′ row′ : ℕ} → Lowest E number row → Lowest E number′ row′ → (number ≡ number′) × (row ≡ row′)
+lowest-one E {number} {row} {number′} {row′} a b =
+    ⊎-elim
+    (λ x. ⊎-elim (λ y. absurd (omega arith)) (λ y. absurd (omega (arith, x, y))) (b .first number row (a .earned)))
+    (λ x. ⊎-elim (λ y. absurd (omega (arith, x, y))) (λ y. omega (arith, x, y)) (b .first number row (a .earned)))
+    (a .first number′ row′ (b .earned))
+
 -- Faults that are, at every instruction of a table, the lowest number that there is a cause for.
 pub record Tells (Cause : List ℕ → ProcedureEntry → ℕ → ℕ → Type 0) (fault : ProcedureEntry → ℕ → ℕ) (t : List ℕ) : Type 0 where
   pub shown : (q i : ℕ) → q < indexOf t .procedures → i < rowCount (codeOf t (own t q)) → (fault (own t q) i ≡ 0 → ⊥) → Cause t (own t q) i (fault (own t q) i)
@@ -65,10 +73,4 @@ module _ (Cause : List ℕ → ProcedureEntry → ℕ → ℕ → Type 0) (fault
     where
       go : (v : Verdict) → codePass fault (indexOf t) t ≡ v → v ≡ Refused number row
       go (Accepted n) e = absurd (pass-none e number row (low .earned))
-      go (Refused n r) e = same (pass-lowest e)
-        where
-          same : Lowest (Earns Cause t) n r → Refused n r ≡ Refused number row
-          same other = ⊎-elim
-              (λ l. absurd (⊎-elim (λ m. omega arith) (λ m. omega (arith, l, m)) (low .first n r (other .earned))))
-              (λ l. ⊎-elim (λ m. absurd (omega (arith, l, m))) (λ m. ap₂ Refused (let z : n ≡ number = omega (arith, l, m) in z) (l .0)) (low .first n r (other .earned)))
-              (other .first number row (low .earned))
+      go (Refused n r) e = let s = lowest-one (Earns Cause t) (pass-lowest e) low in ap₂ Refused (s .0) (s .1)
