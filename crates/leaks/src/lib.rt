@@ -297,7 +297,7 @@ fn is_trusted(table: &[u8], row: u16) -> bool
     table::row_at(table, row as usize).a == 1
 }
 
-// The leaks pass over a table with a given index.
+// The leaks pass over a table with a given index, of the procedures within the limits: those of any table that the rows pass accepts.
 pub fn leaks_with(table: &[u8], index: Index) -> Verdict
     ensures { λ r. ⌜ r ≡ leaksWithin index (now (table .entry)) ⌝ }
 {

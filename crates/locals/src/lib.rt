@@ -318,7 +318,7 @@ fn judge_procedure(
     judge_code(code, nodes, own, count, records)
 }
 
-// The locals pass over a table with a given index.
+// The locals pass over a table with a given index, of the procedures within the limits: those of any table that the rows pass accepts.
 pub fn locals_with(table: &[u8], index: Index) -> Verdict
     ensures { λ r. ⌜ r ≡ localsWithin index (now (table .entry)) ⌝ }
 {
