@@ -128,8 +128,6 @@ runningCalls =
     prints (table rowsS) (table (call 0 5 ∷ argument 7 ∷ [])) (line "call 0 done" ++ line "store 0 7 500")
     ∷ prints (table rowsS) (table (call 0 4 ∷ argument 7 ∷ [])) (line "call 0 stop 31 row 9")
     ∷ prints (table rowsS) (table (call 0 100 ∷ argument 7 ∷ call 0 100 ∷ argument 7 ∷ [])) (line "call 0 done" ++ line "call 1 stop 33 row 8" ++ line "store 0 7 500")
-    -- a reference kept after its record was broken up and another one made
-    ∷ prints (table (trusted ∷ type ∷ guarded ∷ public ∷ parameter 0 0 ∷ local 1 0 ∷ local 2 0 ∷ loadConst 500 ∷ code 9 0 ∷ code 4 1 ∷ code 5 1 ∷ code 8 0 ∷ code 4 2 ∷ code 2 1 ∷ code 10 0 ∷ code 9 0 ∷ code 4 1 ∷ loadConst 1 ∷ code 2 2 ∷ code 7 0 ∷ code 2 1 ∷ code 2 0 ∷ code 11 0 ∷ code 16 0 ∷ [])) (table (call 0 100 ∷ argument 7 ∷ [])) (line "call 0 stop 35 row 19")
     -- an empty list
     ∷ prints (table rowsS) [] []
     -- 31 comes before 33

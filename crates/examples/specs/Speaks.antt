@@ -21,13 +21,13 @@ use Rattle.examples.specs.Tables.{table, rowsGuest, callsGuest}
 
 -- The words of demand 3 that ask about a table, at the table t: a guest's frame or not, a guarded field, a reference to one, what a stop restores
 abbrev pub OfGuest : List ℕ → Frame → Bool → Type 0
-OfGuest t (frame id p i ops ls) answer = guest t (indexOf t) p ≡ answer
+OfGuest t (frame id p i ops ls) answer = guest t p ≡ answer
 
 abbrev pub Guarded : List ℕ → ℕ → ℕ → Type 0
-Guarded t y j = guardedField t (indexOf t) y j ≡ true
+Guarded t y j = guardedField t y j ≡ true
 
 abbrev pub ToGuarded : List ℕ → Value → Type 0
-ToGuarded t v = GuardedReference t (indexOf t) v
+ToGuarded t v = GuardedReference t v
 
 abbrev pub SameStore : List ℕ → Base → Base → Type 0
 SameStore t before after = Restored t (indexOf t) before after
