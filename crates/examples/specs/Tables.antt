@@ -188,7 +188,7 @@ rowsMarkedOnJump =
     ∷ cpLoc 0 ∷ borrowFld 0 0 ∷ stLoc 1
     ∷ mvLoc 1 ∷ callProcedure 1 ∷ ret ∷ rowsTakesOne)
 
--- a marked local, overwritten on the way that does not jump (rows 12 and 13); the ways meet at row 14, the Call is row 15. Row 10 takes the number by `takes`
+-- a marked local, overwritten on the way that does not jump (rows 12 and 13); the ways meet at row 14, the Call is row 15. Row 10 takes the number, by MvLoc or CpLoc
 unfoldable pub rowsOverwrittenOnce : (ℕ → List ℕ) → List (List ℕ)
 rowsOverwrittenOnce takes =
     rowsLent
@@ -252,8 +252,8 @@ rowsTwo =
     ∷ loadConst 2 ∷ pack 0 ∷ loadConst 8 ∷ moveTo 0
     ∷ loadConst 3 ∷ loadConst 8 ∷ borrowGlobal 0 ∷ borrowFld 0 0 ∷ writeRef ∷ ret ∷ []
 
--- type 0 has a number, type 1 a number and a record of type 0, type 2 records of types 1 and 0. One of each field is made and published; then 9 is
--- written to the number that stands two records deep
+-- type 0 has a number, type 1 a number and a record of type 0, type 2 records of types 1 and 0. A record of type 2 is made and published; then 9 is
+-- written to the number that stands two records deep in it
 unfoldable pub rowsNested : List (List ℕ)
 rowsNested =
     guest ∷ type ∷ number ∷ type ∷ number ∷ recordField 0 ∷ type ∷ recordField 1 ∷ recordField 0 ∷ public ∷ parameter 0 0
@@ -321,10 +321,12 @@ rowsDeep =
 -- makes one of type 2, six of type 1 and one of type 0, 73 + 54 + 1 = 128 records, and then packs them all (row 39)
 unfoldable pub rowsMany : List (List ℕ)
 rowsMany =
-    guest ∷ type ∷ type ∷ times 8 (recordField 0) ++ (type ∷ times 8 (recordField 1)) ++ (type ∷ recordField 2 ∷ times 6 (recordField 1) ++ (recordField 0
-    ∷ public ∷ parameter 0 0 ∷ callProcedure 2 ∷ times 6 (callProcedure 1))) ++ (pack 0 ∷ pack 3 ∷ mvLoc 0 ∷ moveTo 3 ∷ ret
-    ∷ private ∷ result 1 1 ∷ times 8 (pack 0)) ++ (pack 1 ∷ ret
-    ∷ private ∷ result 1 2 ∷ times 8 (callProcedure 1)) ++ (pack 2 ∷ ret ∷ [])
+    (guest ∷ type ∷ type ∷ times 8 (recordField 0))
+    ++ (type ∷ times 8 (recordField 1))
+    ++ (type ∷ recordField 2 ∷ times 6 (recordField 1)) ++ (recordField 0 ∷ [])
+    ++ (public ∷ parameter 0 0 ∷ callProcedure 2 ∷ times 6 (callProcedure 1)) ++ (pack 0 ∷ pack 3 ∷ mvLoc 0 ∷ moveTo 3 ∷ ret ∷ [])
+    ++ (private ∷ result 1 1 ∷ times 8 (pack 0)) ++ (pack 1 ∷ ret ∷ [])
+    ++ (private ∷ result 1 2 ∷ times 8 (callProcedure 1)) ++ (pack 2 ∷ ret ∷ [])
 
 -- records are published under n, n - 1, .. 1 (MoveTo is row 6), and then another under 1 (MoveTo is row 15)
 unfoldable pub rowsFull : List (List ℕ)
