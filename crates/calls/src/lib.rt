@@ -6,7 +6,7 @@ ghost use lib.Dec.{eqb, leb};
 ghost use lib.ListN.{length};
 ghost use Rattle.table.specs.Rows.{rowCount, rowAt};
 ghost use Rattle.program.specs.Program.{kindsOf, procedureIn, parameterKinds, resultKinds};
-ghost use Rattle.rules.specs.Calls.{arguments, badKind, unusedByte, argumentFirst, allNumbers, badBudget, listFault, listOf};
+ghost use Rattle.rules.specs.Calls.{arguments, isPublic, badKind, unusedByte, argumentFirst, allNumbers, badBudget, listFault, listOf};
 use table::Row;
 use table::Verdict;
 use table::format;
@@ -149,14 +149,14 @@ fn bad_budget(budget: u32) -> bool
 
 // 16: a procedure that is not public.
 fn is_private(table: &[u8], p: ProcedureEntry) -> bool
-    ensures { λ r. ⌜ r ≡ not (eqb (rowAt (now (table .entry)) (p .row) .a) 1) ⌝ }
+    ensures { λ r. ⌜ r ≡ not (isPublic (now (table .entry)) p) ⌝ }
 {
     table::row_at(table, p.row as usize).a != 1
 }
 
 // 16: a bad call, of a procedure with entry p, with so many arguments, in a table with so many procedures.
 fn bad_call(table: &[u8], procedures: usize, p: ProcedureEntry, row: Row, count: usize) -> bool
-    ensures { λ r. ⌜ r ≡ (leb procedures (row .b) || not (eqb (rowAt (now (table .entry)) (p .row) .a) 1) || not (allNumbers (parameterKinds (now (table .entry)) p) && allNumbers (resultKinds (now (table .entry)) p)) || not (eqb count (length (parameterKinds (now (table .entry)) p))) || badBudget (row .c)) ⌝ }
+    ensures { λ r. ⌜ r ≡ (leb procedures (row .b) || not (isPublic (now (table .entry)) p) || not (allNumbers (parameterKinds (now (table .entry)) p) && allNumbers (resultKinds (now (table .entry)) p)) || not (eqb count (length (parameterKinds (now (table .entry)) p))) || badBudget (row .c)) ⌝ }
 {
     if procedures <= row.b as usize {
         return true;

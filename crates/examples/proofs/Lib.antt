@@ -1,3 +1,4 @@
 pub mod Rules
 pub mod Examples
 pub mod Speaks
+pub mod Weaker

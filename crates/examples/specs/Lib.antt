@@ -1,3 +1,4 @@
 pub mod Tables
 pub mod Examples
 pub mod Speaks
+pub mod Weaker

@@ -336,3 +336,14 @@ rowsFull =
     ∷ mvLoc 0 ∷ loadConst 1 ∷ subtract ∷ stLoc 0
     ∷ cpLoc 0 ∷ branchCond 0
     ∷ pack 0 ∷ loadConst 1 ∷ moveTo 0 ∷ ret ∷ []
+
+-- S, a procedure that hands out a reference to the kilos under an address (row 16 returns it), and a guest that writes one kilo through it
+unfoldable pub rowsHandedOut : List (List ℕ)
+rowsHandedOut =
+    rowsS
+    ++ (public ∷ parameter 0 0 ∷ result 2 0 ∷ mvLoc 0 ∷ borrowGlobal 0 ∷ borrowFld 0 0 ∷ ret
+    ∷ guest ∷ public ∷ parameter 0 0 ∷ local 2 0 ∷ mvLoc 0 ∷ callProcedure 1 ∷ stLoc 1 ∷ loadConst 1 ∷ mvLoc 1 ∷ writeRef ∷ ret ∷ [])
+
+-- the credit is published, and the guest is called
+unfoldable pub callsHandedOut : List (List ℕ)
+callsHandedOut = call 0 100 ∷ argument 7 ∷ call 2 100 ∷ argument 7 ∷ []

@@ -161,7 +161,7 @@ impl Stack {
 
     // BorrowLoc of a local of kind k: a number or a record.
     fn borrow(self, k: u32) -> Self
-        ensures { λ r. ⌜ view r ≡ applied (effectIf (not (isReference k)) [] ((k + 2) ∷ [])) (view self) ⌝ }
+        ensures { λ r. ⌜ view r ≡ applied (effectIf (not (isReference k)) [] (referenceTo k ∷ [])) (view self) ⌝ }
     {
         if is_reference(k) {
             return self.fail(7);

@@ -5,11 +5,12 @@ ghost use Prim.Native.Nat.{ℕ, _+_, _*_, _≤_, _<_};
 ghost use lib.Dec.{eqb};
 ghost use lib.ListN.{length};
 ghost use Rattle.reach.specs.Search.{after, visitAll};
+ghost use Rattle.table.specs.Format.{opCall, opRet};
 ghost use Rattle.table.specs.Rows.{rowAt, rowCount};
 ghost use Rattle.program.specs.Program.{codeOf, codeVerdict};
 ghost use Rattle.program.specs.Limits.{limited};
 ghost use Rattle.flow.specs.Steps.{nexts};
-ghost use Rattle.flow.specs.Places.{succs, markMoves, within, markNodes, startPlaces};
+ghost use Rattle.flow.specs.Places.{markPlaces, succs, markMoves, within, markNodes, startPlaces};
 ghost use Rattle.spread.specs.Moves.{placesOf};
 ghost use Rattle.locals.specs.Sets.{contains};
 ghost use Rattle.steps.specs.Steps.{viewStep, stepAt, givenBy};
@@ -115,7 +116,7 @@ fn expand(
     u: usize,
 ) -> usize
     requires { ⌜ u < 8448 ⌝ }
-    ensures { λ r. ⌜ after (now (visited .exit)) (now (queue .exit)) r ≡ visitAll (after (now (visited .entry)) (now (queue .entry)) tail) (succs 33 (nexts (now (code .entry))) (λ (i x : ℕ). within (markMoves (viewStep shape) x)) u) ⌝ }
+    ensures { λ r. ⌜ after (now (visited .exit)) (now (queue .exit)) r ≡ visitAll (after (now (visited .entry)) (now (queue .entry)) tail) (succs markPlaces (nexts (now (code .entry))) (λ (i x : ℕ). within (markMoves (viewStep shape) x)) u) ⌝ }
 {
     let n = code.len() / format::ROW_BYTES;
     let i = u / 33;
@@ -222,7 +223,7 @@ fn some_marked(nodes: &[bool], i: usize, count: usize) -> bool
 // The number that an instruction earns, or 0.
 fn fault_at(nodes: &[bool], shape: Shape, i: usize) -> u8
     requires { ⌜ i < 256 ⌝ }
-    ensures { λ r. ⌜ r ≡ cond (eqb (shape .opcode) 15 && someMarked (now (nodes .entry)) i (shape .takes)) 13 (cond (eqb (shape .opcode) 16 && someMarked (now (nodes .entry)) i (shape .takes)) 14 0) ⌝ }
+    ensures { λ r. ⌜ r ≡ cond (eqb (shape .opcode) opCall && someMarked (now (nodes .entry)) i (shape .takes)) 13 (cond (eqb (shape .opcode) opRet && someMarked (now (nodes .entry)) i (shape .takes)) 14 0) ⌝ }
 {
     if shape.opcode == format::CALL {
         if some_marked(nodes, i, shape.takes as usize) {

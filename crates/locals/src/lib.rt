@@ -5,6 +5,7 @@ ghost use Prim.Native.Nat.{ℕ, _+_, _*_, _≤_, _<_};
 ghost use lib.Dec.{eqb};
 ghost use lib.ListN.{length, getD, take, drop};
 ghost use Rattle.reach.specs.Search.{after, visitAll};
+ghost use Rattle.table.specs.Format.{opMvLoc, opStLoc};
 ghost use Rattle.table.specs.Rows.{rowAt, rowCount};
 ghost use Rattle.program.specs.Program.{isRecord, localKind, codeOf, codeVerdict};
 ghost use Rattle.program.specs.Limits.{limited};
@@ -64,7 +65,7 @@ impl LocalSet {
 
 // The status of local l after an instruction: 0 full, 1 empty.
 fn status_after(row: Row, l: usize, x: usize) -> usize
-    ensures { λ r. ⌜ r ≡ cond (eqb (row .b) l) (cond (eqb (row .a) 2) 1 (cond (eqb (row .a) 4) 0 x)) x ⌝ }
+    ensures { λ r. ⌜ r ≡ cond (eqb (row .b) l) (cond (eqb (row .a) opMvLoc) 1 (cond (eqb (row .a) opStLoc) 0 x)) x ⌝ }
 {
     if row.b as usize != l {
         return x;

@@ -180,7 +180,7 @@ fn counted(kind: u8, of: u8, n: usize) -> usize
 
 // The procedure that the next row stands in.
 fn next_own(kind: u8, own: ProcedureEntry, starts: ProcedureEntry) -> ProcedureEntry
-    ensures { λ r. ⌜ r ≡ cond (eqb kind 4) starts own ⌝ }
+    ensures { λ r. ⌜ r ≡ cond (eqb kind procedureKind) starts own ⌝ }
 {
     if kind == format::PROCEDURE {
         starts

@@ -3,6 +3,7 @@ ghost use mathlib.Core.Path.{_≡_};
 ghost use Prim.Native.Nat.{_+_, _/_, _<_};
 ghost use mathlib.Core.Bool.{true, false, cond, not, _&&_, _||_};
 ghost use lib.Dec.{eqb, leb};
+ghost use Rattle.table.specs.Format.{opBorrowFld, opExists, opBranch, opBranchCond};
 ghost use Rattle.table.specs.Rows.{rowCount};
 ghost use Rattle.program.specs.Program.{jumpsTo, isTarget, targetMarks, Marked, codeOf, codeVerdict};
 ghost use Rattle.operands.specs.Operands.{foreign, endsBlock, codeFault, operandsWith, operandsOf};
@@ -16,7 +17,7 @@ use table::index::TypeEntry;
 
 // 10: a type of another module.
 fn foreign_type(opcode: u8, named: TypeEntry, own: ProcedureEntry) -> bool
-    ensures { λ r. ⌜ r ≡ (leb 8 opcode && leb opcode 14 && not (eqb (named .owner) (own .owner))) ⌝ }
+    ensures { λ r. ⌜ r ≡ (leb opBorrowFld opcode && leb opcode opExists && not (eqb (named .owner) (own .owner))) ⌝ }
 {
     if opcode < format::BORROW_FLD {
         return false;
@@ -69,7 +70,7 @@ fn mark_targets(code: &[u8], marks: &mut [bool])
 
 // Whether an opcode is Branch or BranchCond.
 fn is_jump(opcode: u8) -> bool
-    ensures { λ r. ⌜ r ≡ (eqb opcode 17 || eqb opcode 18) ⌝ }
+    ensures { λ r. ⌜ r ≡ (eqb opcode opBranch || eqb opcode opBranchCond) ⌝ }
 {
     if opcode == format::BRANCH {
         return true;
@@ -140,7 +141,7 @@ fn is_last(code: &[u8], marks: &[bool], n: usize, opcode: u8, i: usize) -> bool
 
 // The type that an instruction names: the number is B / 8 for BorrowFld, else B.
 pub fn named_number(opcode: u8, b: u16) -> usize
-    ensures { λ r. ⌜ r ≡ cond (eqb opcode 8) (b / 8) b ⌝ }
+    ensures { λ r. ⌜ r ≡ cond (eqb opcode opBorrowFld) (b / 8) b ⌝ }
 {
     if opcode == format::BORROW_FLD {
         (b / 8) as usize

@@ -3,6 +3,7 @@ ghost use mathlib.Core.Path.{_≡_};
 ghost use mathlib.Core.Bool.{not, _&&_};
 ghost use lib.Dec.{eqb, leb, ltb};
 ghost use Prim.Native.Nat.{_<_};
+ghost use Rattle.table.specs.Format.{localKind, instructionKind, opOp};
 ghost use Rattle.rows.specs.Rows.{lengthOf, rowsOf, formOf, countOf, belowRow, misplaced, tooMany, usesA, usesB, usesC, usesD, dirty, unusedByte, badValue, badGuard, rowFault, useOf, usedWith};
 use table::Row;
 use table::Verdict;
@@ -139,7 +140,7 @@ impl Above {
 
     // 4: a parameter after another local.
     fn late_parameter(self, row: Row) -> bool
-        ensures { λ r. ⌜ r ≡ (eqb (row .kind) 5 && eqb (row .c) 1 && self .other) ⌝ }
+        ensures { λ r. ⌜ r ≡ (eqb (row .kind) localKind && eqb (row .c) 1 && self .other) ⌝ }
     {
         if row.kind == format::LOCAL {
             if row.c == 1 {
@@ -327,7 +328,7 @@ fn bad_c(row: Row) -> bool
 
 // 4: an Op over 3.
 fn bad_op(row: Row) -> bool
-    ensures { λ r. ⌜ r ≡ (eqb (row .kind) 7 && eqb (row .a) 19 && ltb 3 (row .b)) ⌝ }
+    ensures { λ r. ⌜ r ≡ (eqb (row .kind) instructionKind && eqb (row .a) opOp && ltb 3 (row .b)) ⌝ }
 {
     if row.kind == format::INSTRUCTION {
         if row.a == format::OP {

@@ -8,6 +8,7 @@ use Rattle.table.specs.declared.Row.{Row}
 use Rattle.table.specs.declared.Verdict.{Verdict}
 use Rattle.table.specs.declared.Verdict.the-variants.{Accepted, Refused}
 use Rattle.table.specs.declared.index.Index.{Index}
+use Rattle.table.specs.declared.index.ProcedureEntry.{ProcedureEntry}
 use Rattle.table.specs.Format.{rowBytes}
 use Rattle.table.specs.Rows.{rowCount, rowAt, isKind}
 use Rattle.table.specs.Verdicts.{passOver}
@@ -51,8 +52,11 @@ allNumbers [] = true
 allNumbers (k ∷ ks) = eqb k number && allNumbers ks
 
 -- 16: no such public procedure, a parameter or result that is no number, a wrong number of arguments, or a budget out of range
+abbrev pub isPublic : List ℕ → ProcedureEntry → Bool
+isPublic t p = eqb (rowAt t (p .row) .a) 1
+
 unfoldable pub noSuchProcedure : List ℕ → Index → ℕ → Bool
-noSuchProcedure t ix q = leb (ix .procedures) q || not (eqb (rowAt t (procedureIn ix q .row) .a) 1)
+noSuchProcedure t ix q = leb (ix .procedures) q || not (isPublic t (procedureIn ix q))
 
 unfoldable pub notNumbers : List ℕ → Index → ℕ → Bool
 notNumbers t ix q = not (allNumbers (parameterKinds t (procedureIn ix q)) && allNumbers (resultKinds t (procedureIn ix q)))

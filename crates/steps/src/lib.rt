@@ -5,6 +5,7 @@ ghost use Prim.Native.Nat.{ℕ, _+_, _-_, _*_, _<_};
 ghost use lib.ListN.{length, getD};
 ghost use lib.Dec.{eqb};
 ghost use mathlib.Core.Bool.{cond};
+ghost use Rattle.table.specs.Format.{opCall};
 ghost use Rattle.program.specs.Program.{number, parametersEnd};
 ghost use Rattle.kinds.specs.Effects.{effectOf};
 ghost use Rattle.steps.specs.Steps.{borrowsGuarded, stepOf, viewStep, givenBy};
@@ -144,7 +145,7 @@ fn result_given(results: &[bool], q: u16, r: usize) -> bool
 
 // Which of the first four operands that an instruction pushes are marked of themselves.
 fn fresh_of(table: &[u8], results: &[bool], row: Row, named: TypeEntry) -> [bool; 4]
-    ensures { λ x. ⌜ ((r : ℕ) → r < 4 → getD x r false ≡ cond (eqb (row .a) 15) (getD (now (results .entry)) (4 * row .b + r) false) (borrowsGuarded (now (table .entry)) named row)) ⌝ }
+    ensures { λ x. ⌜ ((r : ℕ) → r < 4 → getD x r false ≡ cond (eqb (row .a) opCall) (getD (now (results .entry)) (4 * row .b + r) false) (borrowsGuarded (now (table .entry)) named row)) ⌝ }
 {
     if row.a == format::CALL {
         return [

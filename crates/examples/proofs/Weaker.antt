@@ -1,0 +1,47 @@
+-- A judge without the leaks pass would break demand 3, by computation: the guest's frame comes to hold a reference to the guarded kilos.
+use Prim.Native.Nat.{ℕ}
+use mathlib.Core.Path.{_≡_, refl}
+use mathlib.Core.Bool.{true, false, true≢false}
+use mathlib.Core.List.{List, [], _∷_}
+use mathlib.Core.Option.{Option, none, some}
+use lib.ListN.{getElem? as nth}
+use Rattle.reach.specs.Reach.{here as first}
+use Rattle.table.specs.Index.{indexOf}
+use Rattle.rules.specs.Machine.{Value, num, toField, here, entry, frame, state, next}
+use Rattle.rules.specs.History.{Event, moment}
+use Rattle.rules.specs.Run.{historyOf}
+use Rattle.rules.specs.Words.{operand}
+use Rattle.rules.specs.Claim.{All, also, Safe, safe}
+use Rattle.rules.proofs.Handing.{all-nth}
+use Rattle.examples.specs.Tables.{table, rowsHandedOut, callsHandedOut}
+use Rattle.examples.specs.Weaker.{BreaksWithoutLeaks}
+use Rattle.examples.proofs.Rules.{rules}
+
+-- the moment after the Call: the guest's frame, at StLoc, has the reference among its operands
+abbrev holding : Event
+holding =
+    moment (state (frame 1 2 2 (toField 0 0 0 ∷ []) (none ∷ none ∷ []) ∷ []) (here 0 (num 500 ∷ []) ∷ []) (entry 0 7 0 ∷ []) 3) 23
+    (next (state (frame 1 2 3 [] (none ∷ some (toField 0 0 0) ∷ []) ∷ []) (here 0 (num 500 ∷ []) ∷ []) (entry 0 7 0 ∷ []) 3))
+
+happens : nth (historyOf (table rowsHandedOut) (table callsHandedOut)) 12 ≡ some holding
+unfolding rules
+happens = refl
+
+not-safe : Safe (table rowsHandedOut) (indexOf (table rowsHandedOut)) holding → ⊥
+unfolding rules
+not-safe (safe s o) = go (s .kept)
+  where
+    go : All _ _ → ⊥
+    go (also k a) = true≢false (k (toField 0 0 0) (operand (first refl)) (0, 0, 0, refl, refl) .0)
+
+pub breaks : BreaksWithoutLeaks (table rowsHandedOut) (table callsHandedOut)
+unfolding rules
+breaks = record {
+  row = 16;
+  refused = refl;
+  rows = 28;
+  otherwise = refl;
+  calls = 4;
+  good = refl;
+  unsafe = λ a. not-safe (all-nth a 12 holding happens);
+}
