@@ -25,3 +25,4 @@ pub mod Demand3
 pub mod Printed
 pub mod Ends
 pub mod Lengths
+pub mod Shut
