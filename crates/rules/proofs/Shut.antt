@@ -1,6 +1,6 @@
 -- Wrong events are not safe, and wrong lists of events are not chained: for each clause of the claim, the wrong machines that it shuts out.
 use Prim.Native.Nat.{ℕ, zero, suc, _+_, _-_, _/_, _%_, _<_, _≤_}
-use mathlib.Core.Path.{_≡_, refl, ap, sym, _∙_}
+use mathlib.Core.Path.{_≡_, refl, ap, sym, subst, _∙_}
 use mathlib.Core.Bool.{Bool, true, false, cond}
 use mathlib.Core.List.{List, [], _∷_, _++_, map, List·Memᴰ·head, List·Memᴰ·tail, List·Memᴰ·cases-cons, List·Memᴰ·not-nil}
 use mathlib.Core.Logic.{_⊎_, inl, inr, ⊎-elim, _≢_}
@@ -59,6 +59,63 @@ nth-inside : {A : Type 0} (l : List A) (i : ℕ) (x : A) → nth l i ≡ some x 
 nth-inside [] i x e = absurd (clash (cc))
 nth-inside (y ∷ l) zero x e = omega arith
 nth-inside (y ∷ l) (suc i) x e = omega (arith, nth-inside l i x e)
+
+-- a frame's identity, its procedure, and the row that it is at
+abbrev pub identity : Frame → ℕ
+identity (frame id p i ops ls) = id
+
+abbrev pub procedure : Frame → ℕ
+procedure (frame id p i ops ls) = p
+
+abbrev pub rowOf : List ℕ → Frame → ℕ
+rowOf t (frame id p i ops ls) = instructionRow t p i
+
+head-same : {A : Type 0} {x y : A} {xs ys : List A} → x ∷ xs ≡ y ∷ ys → x ≡ y
+head-same e = cc
+
+tail-same : {A : Type 0} {x y : A} {xs ys : List A} → x ∷ xs ≡ y ∷ ys → xs ≡ ys
+tail-same e = cc
+
+-- frames
+label : {t : List ℕ} {fs : List Frame} {rs : List Cell} {n : ℕ} {f : Frame} → Typed t fs rs n f → (v : Value) → Holds f v → Labelled t fs rs n v
+label (typed a b) = a
+
+placed : {t : List ℕ} {fs : List Frame} {rs : List Cell} {n id p i : ℕ} {ops : List Value} {ls : List (Option Value)} → Typed t fs rs n (frame id p i ops ls) → (l : ℕ) (v : Value) → nth ls l ≡ some (some v)
+    → (l < localCount (bodyOf t p)) × (valueKind v ≡ localKind t (bodyOf t p) l)
+placed (typed a b) = b
+
+stands : {t : List ℕ} {q id i : ℕ} {ops : List Value} {ls : List (Option Value)} {gs : List Frame} (above : List Frame) (f g : Frame) (rest : List Frame) → Linked t q gs → frame id q i ops ls ∷ gs ≡ above ++ (f ∷ g ∷ rest)
+    → (procedure g < procedureCount t) × (rowAt t (rowOf t g) .a ≡ opCall) × (rowAt t (rowOf t g) .b ≡ procedure f)
+stands [] f g rest first e = absurd (clash (cc))
+stands (x ∷ []) f g rest first e = absurd (clash (cc))
+stands (x ∷ y ∷ above) f g rest first e = absurd (clash (cc))
+stands {q} {id} {i} {ops} {ls} [] f g rest (at-call {id = id′} {p} {i = i′} {ops = ops′} {ls = ls′} a b c d l) e =
+    let z : frame id q i ops ls ≡ f = cc in let w : frame id′ p i′ ops′ ls′ ≡ g = cc in rw (← w, ← z) (a, c, d)
+stands (x ∷ above) f g rest (at-call a b c d l) e = stands above f g rest l (tail-same e)
+
+rises : (n : ℕ) (f : Frame) (gs : List Frame) → Rising n gs → Mem f gs → identity f < n
+rises n f [] r m = absurd (List·Memᴰ·not-nil m)
+rises n f (frame id′ p′ i′ ops′ ls′ ∷ gs) r m = ⊎-elim (λ e. omega (arith, r .0, ap identity e)) (λ q. omega (arith, r .0, rises id′ f gs (r .1) q)) (List·Memᴰ·cases-cons m)
+
+risen : (above : List Frame) (f : Frame) (rest : List Frame) (n : ℕ) → Rising n (above ++ (f ∷ rest)) → Rising (identity f) rest
+risen [] (frame id p i ops ls) rest n r = r .1
+risen (frame id′ p′ i′ ops′ ls′ ∷ above) f rest n r = risen above f rest id′ (r .1)
+
+-- a number field of a record that exists has a number in it
+number-kind : (v : Value) → valueKind v ≡ number → (x : ℕ) × (v ≡ num x)
+number-kind (num x) e = (x, refl)
+number-kind (obj c y) e = absurd (omega arith)
+number-kind (toLocal f l k) e = absurd (omega arith)
+number-kind (toField c y j) e = absurd (omega arith)
+number-kind (toRecord c y) e = absurd (omega arith)
+
+number-in : (vs : List Value) (j : ℕ) → nth (map valueKind vs) j ≡ some number → (x : ℕ) × (nth vs j ≡ some (num x))
+number-in [] j e = absurd (clash (cc))
+number-in (v ∷ vs) zero e = let z = number-kind v (cc) in (z .0, ap {B = Option Value} some (z .1))
+number-in (v ∷ vs) (suc j) e = number-in vs j e
+
+pub number-there : {t : List ℕ} {fs : List Frame} {rs : List Cell} {st : List Entry} → Sound t fs rs st → (c y j : ℕ) → Exists rs c y → nth (kindsIn t y) j ≡ some number → (x : ℕ) × NumberIn rs c y j x
+number-there s c y j e d = let z = number-in (e .0) j (ap (λ (l : List ℕ). nth l j) (s .shaped c y (e .0) (e .1) .1) ∙ d) in (z .0, record { fields = e .0; exists = e .1; number = z .1 })
 
 -- A moment: frame id of procedure p is at instruction i over the frames fs, and `row` is told
 module _ (t : List ℕ) (ix : Index) (row id p i : ℕ) (ops : List Value) (ls : List (Option Value)) (fs : List Frame) (rs : List Cell) (st : List Entry) (n : ℕ) where
@@ -139,6 +196,102 @@ module _ (t : List ℕ) (ix : Index) (row id p i : ℕ) (ops : List Value) (ls :
   pub not-stale-in-guest : {o : Outcome} {id′ p′ i′ c y j : ℕ} {ops′ : List Value} {ls′ : List (Option Value)} (l : ℕ) → Mem (frame id′ p′ i′ ops′ ls′) fs → guest t p′ ≡ true → guardedField t y j ≡ true
       → nth ls′ l ≡ some (some (toField c y j)) → nth rs c ≡ some (gone y) → SafeWith o → ⊥
   not-stale-in-guest l m g d e stale s = not-in-guest (List·Memᴰ·tail m) g d (local l e) s
+
+  -- LABELS, `Typed`, of any frame
+  module _ {o : Outcome} {id′ p′ i′ : ℕ} {ops′ : List Value} {ls′ : List (Option Value)} (among : Mem (frame id′ p′ i′ ops′ ls′) (frame id p i ops ls ∷ fs)) where
+    typed-of : SafeWith o → Typed t (frame id p i ops ls ∷ fs) rs n (frame id′ p′ i′ ops′ ls′)
+    typed-of s = all-out (safe-state s .types) _ among
+
+    -- a frame holds a record under another type than it has; one that was broken up
+    pub not-mislabelled : {c y y′ : ℕ} {vs : List Value} → Holds (frame id′ p′ i′ ops′ ls′) (obj c y) → nth rs c ≡ some (here y′ vs) → y′ ≢ y → SafeWith o → ⊥
+    not-mislabelled {c} {y} h e f s = let z = label (typed-of s) (obj c y) h in f (cc (e, z .1))
+
+    pub not-dead : {c y y′ : ℕ} → Holds (frame id′ p′ i′ ops′ ls′) (obj c y) → nth rs c ≡ some (gone y′) → SafeWith o → ⊥
+    not-dead {c} {y} h e s = let z = label (typed-of s) (obj c y) h in clash (cc (e, z .1))
+
+    -- a reference to a field that is no number of the type, or names a record by another type
+    pub not-no-field : {c y j : ℕ} → Holds (frame id′ p′ i′ ops′ ls′) (toField c y j) → nth (kindsIn t y) j ≢ some number → SafeWith o → ⊥
+    not-no-field {c} {y} {j} h f s = f (label (typed-of s) (toField c y j) h .1)
+
+    pub not-other-type : {c y j y′ : ℕ} {vs : List Value} → Holds (frame id′ p′ i′ ops′ ls′) (toField c y j) → nth rs c ≡ some (here y′ vs) → y′ ≢ y → SafeWith o → ⊥
+    not-other-type {c} {y} {j} h e f s = ⊎-elim (λ q. clash (cc (e, q))) (λ q. f (cc (e, q .1))) (label (typed-of s) (toField c y j) h .0)
+
+    -- a reference to a local has another kind than its procedure declares; so has the value in a local
+    pub not-other-local : {f l k q i″ : ℕ} {ops″ : List Value} {ls″ : List (Option Value)} → Holds (frame id′ p′ i′ ops′ ls′) (toLocal f l k) → Mem (frame f q i″ ops″ ls″) (frame id p i ops ls ∷ fs) → localKind t (bodyOf t q) l ≢ k
+        → SafeWith o → ⊥
+    not-other-local {f} {l} {k} {q} {i″} {ops″} {ls″} h m g s = g (label (typed-of s) (toLocal f l k) h .2 q i″ ops″ ls″ m .1)
+
+    pub not-misplaced : {v : Value} (l : ℕ) → nth ls′ l ≡ some (some v) → valueKind v ≢ localKind t (bodyOf t p′) l → SafeWith o → ⊥
+    not-misplaced {v} l e f s = f (placed (typed-of s) l v e .1)
+
+  -- RECORDS AND ENTRIES, `Sound`
+  -- a record has no number in a number field; an entry's record does not exist, or is of another type than the key's
+  pub not-numberless : {o : Outcome} (c y j : ℕ) → Exists rs c y → nth (kindsIn t y) j ≡ some number → ((x : ℕ) → ¬ (NumberIn rs c y j x)) → SafeWith o → ⊥
+  not-numberless c y j e d f s = let z = number-there (safe-state s .sound) c y j e d in f (z .0) (z .1)
+
+  pub not-entry-of-none : {o : Outcome} {c y a : ℕ} → IsEntry st y a c → ¬ (Exists rs c y) → SafeWith o → ⊥
+  not-entry-of-none {c} {y} {a} e f s = f (safe-state s .sound .entered y a c e)
+
+  pub not-entry-of-other : {o : Outcome} {c y a y′ : ℕ} {vs : List Value} → IsEntry st y a c → nth rs c ≡ some (here y′ vs) → y′ ≢ y → SafeWith o → ⊥
+  not-entry-of-other {c} {y} {a} e d f s = let z = safe-state s .sound .entered y a c e in f (cc (d, z .1))
+
+  -- FRAMES, `Linked` and `Rising`: frame g waits directly under frame f
+  module _ {o : Outcome} (above : List Frame) (f g : Frame) (rest : List Frame) (waits : frame id p i ops ls ∷ fs ≡ above ++ (f ∷ g ∷ rest)) where
+    -- it stands at no Call, at the Call of another procedure, or is of a procedure that does not exist
+    pub not-at-call : rowAt t (rowOf t g) .a ≢ opCall → SafeWith o → ⊥
+    not-at-call d s = d (stands above f g rest (safe-state s .linked) waits .1)
+
+    pub not-at-its-call : rowAt t (rowOf t g) .b ≢ procedure f → SafeWith o → ⊥
+    not-at-its-call d s = d (stands above f g rest (safe-state s .linked) waits .2)
+
+    pub not-of-none : procedureCount t ≤ procedure g → SafeWith o → ⊥
+    not-of-none l s = omega (arith, stands above f g rest (safe-state s .linked) waits .0, l)
+
+  -- two frames have one identity
+  pub not-one-identity : {o : Outcome} (above : List Frame) (f g : Frame) (rest : List Frame) → frame id p i ops ls ∷ fs ≡ above ++ (f ∷ rest) → Mem g rest → identity g ≡ identity f → SafeWith o → ⊥
+  not-one-identity above f g rest e m d s = omega (arith, rises (identity f) g rest (risen above f rest n (subst (λ (l : List Frame). Rising n l) e (safe-state s .rising))) m, d)
+
+  -- THE LAST RET, `returnsLast`
+  last-ret : {vs : List Value} {z : State} → SafeWith (finished vs z) → (rowAt t row .a ≡ opRet) × Takes t ix p i ops vs [] × (fs ≡ []) × (z ≡ state [] rs st n)
+  last-ret (safe s (returnsLast a b c)) = (a, b, c, refl)
+
+  -- a call is done by another instruction than Ret; while a frame waits; with other results than Ret takes; leaving other records or entries than there are
+  pub not-halfway : {vs : List Value} {z : State} → rowAt t row .a ≢ opRet → SafeWith (finished vs z) → ⊥
+  not-halfway f s = f (last-ret s .0)
+
+  pub not-while-waiting : {vs : List Value} {z : State} {g : Frame} {gs : List Frame} → fs ≡ g ∷ gs → SafeWith (finished vs z) → ⊥
+  not-while-waiting e s = let w = last-ret s .2 in clash (cc (e, w))
+
+  pub not-other-results : {vs us rest : List Value} {z : State} → Takes t ix p i ops us rest → us ≢ vs → SafeWith (finished vs z) → ⊥
+  not-other-results d f s = let w = last-ret s .1 in f (cc (d, w))
+
+  pub not-other-end : {vs : List Value} {z : State} → z ≢ state [] rs st n → SafeWith (finished vs z) → ⊥
+  not-other-end f s = f (last-ret s .3)
+
+  -- What a step leaves of the frames
+  under-same : {fs″ : List Frame} {m : ℕ} (g : Frame) (gs : List Frame) → fs″ ≡ g ∷ gs → rowAt t row .a ≢ opWriteRef → rowAt t row .a ≢ opCall → rowAt t row .a ≢ opRet → Handed t ix row id p i ops ls fs n fs″ m → gs ≡ fs
+  under-same g gs e a b c (goesOn d f) = cc (e)
+  under-same g gs e a b c (writes d f) = absurd (a d)
+  under-same g gs e a b c (calls d f) = absurd (b d)
+  under-same g gs e a b c (returns d f h) = absurd (c d)
+
+  called-as : {fs″ : List Frame} {m : ℕ} {f : Frame} {gs : List Frame} → rowAt t row .a ≡ opCall → fs″ ≡ f ∷ gs → Handed t ix row id p i ops ls fs n fs″ m → (identity f ≡ n) × (m ≡ n + 1)
+  called-as e d (goesOn a b) = absurd (a e)
+  called-as e d (writes a b) = absurd (omega arith)
+  called-as e d (calls a b) = (ap identity (head-same (sym d)), refl)
+  called-as e d (returns a b c) = absurd (omega arith)
+
+  to-field : {c y j d : ℕ} {v r : Value} {rest fields : List Value} → v ≡ toField c y j → ops ≡ r ∷ rest → target (frame id p i ops ls ∷ fs) rs r ≡ aRecord d fields → Makes t row id p ops (frame id p i ops ls ∷ fs) rs st v → c ≡ d
+  to-field e s z (local-made a) = absurd (clash (cc))
+  to-field {r} e s z (field-made {r = q} a b w) = let x : q ≡ r = cc (b, s) in cc (e, rw x at w, z)
+  to-field e s z (nested-made a b w u) = absurd (clash (cc))
+  to-field e s z (entry-made a b w) = absurd (clash (cc))
+
+  borrows : {v : Value} → Makes t row id p ops (frame id p i ops ls ∷ fs) rs st v → (rowAt t row .a ≡ opBorrowLoc) ⊎ ((rowAt t row .a ≡ opBorrowFld) ⊎ (rowAt t row .a ≡ opBorrowGlobal))
+  borrows (local-made a) = inl a
+  borrows (field-made a b w) = inr (inl a)
+  borrows (nested-made a b w u) = inr (inl a)
+  borrows (entry-made a b w) = inr (inr a)
 
   -- A step is done, to this state
   module _ (fs′ : List Frame) (rs′ : List Cell) (st′ : List Entry) (n′ : ℕ) where
@@ -241,3 +394,29 @@ module _ (t : List ℕ) (ix : Index) (row id p i : ℕ) (ops : List Value) (ls :
       -- `entered`, `left`: an entry changes its key in one step, though its record stays one
       pub not-rekeyed : {a y′ a′ : ℕ} → IsEntry st y a c → ¬ (IsEntry st′ y a c) → IsEntry st′ y′ a′ c → ¬ (IsEntry st y′ a′ c) → Done → ⊥
       not-rekeyed {a} {y′} {a′} k l m o s = omega (arith, proper-of s .left y a c k l .opcode, proper-of s .entered y′ a′ c m o .opcode)
+
+    -- FRAMES, `Handed`
+    -- records are swapped with those of a suspended frame: frames under the running one change by a step that is no WriteRef, Call or Ret
+    pub not-reached-under : {g : Frame} {gs : List Frame} → fs′ ≡ g ∷ gs → rowAt t row .a ≢ opWriteRef → rowAt t row .a ≢ opCall → rowAt t row .a ≢ opRet → gs ≢ fs → Done → ⊥
+    not-reached-under {g} {gs} e a b c f s = f (under-same g gs e a b c (handed-of s))
+
+    -- a called frame does not get the count of frames as its identity, or the count stays
+    pub not-an-old-frame : {f : Frame} {gs : List Frame} → rowAt t row .a ≡ opCall → fs′ ≡ f ∷ gs → identity f ≢ n → Done → ⊥
+    not-an-old-frame e d f s = f (called-as e d (handed-of s) .0)
+
+    pub not-uncounted : {f : Frame} {gs : List Frame} → rowAt t row .a ≡ opCall → fs′ ≡ f ∷ gs → n′ ≢ n + 1 → Done → ⊥
+    not-uncounted e d f s = f (called-as e d (handed-of s) .1)
+
+    -- REFERENCES, `Origin`
+    module _ {j : ℕ} {ops′ : List Value} {ls′ : List (Option Value)} {gs : List Frame} (top : fs′ ≡ frame id p j ops′ ls′ ∷ gs) where
+      came : {v : Value} → IsReference v → Holds (frame id p j ops′ ls′) v → Done → Holds (frame id p i ops ls) v ⊎ Makes t row id p ops (frame id p i ops ls ∷ fs) rs st v
+      came {v} r h s = let o : Origin t ix row id p i ops ls fs rs st (frame id p j ops′ ls′ ∷ gs) = rw top at (origin-of s) in o refl v r h
+
+      -- the running frame comes to a reference to a field of another record than the one that BorrowFld's operand leads to
+      pub not-another : {c y k d : ℕ} {r : Value} {rest fields : List Value} → Holds (frame id p j ops′ ls′) (toField c y k) → ¬ (Holds (frame id p i ops ls) (toField c y k)) → ops ≡ r ∷ rest
+          → target (frame id p i ops ls ∷ fs) rs r ≡ aRecord d fields → c ≢ d → Done → ⊥
+      not-another h m e z f s = ⊎-elim (λ q. m q) (λ q. f (to-field refl e z q)) (came tt h s)
+
+      -- it comes to a reference that a suspended frame holds, or no frame, by a step that borrows nothing
+      pub not-from-under : {v : Value} → IsReference v → Holds (frame id p j ops′ ls′) v → ¬ (Holds (frame id p i ops ls) v) → rowAt t row .a ≢ opBorrowLoc → rowAt t row .a ≢ opBorrowFld → rowAt t row .a ≢ opBorrowGlobal → Done → ⊥
+      not-from-under r h m a b c s = ⊎-elim (λ q. m q) (λ q. ⊎-elim (λ u. a u) (λ u. ⊎-elim (λ w. b w) (λ w. c w) u) (borrows q)) (came r h s)
