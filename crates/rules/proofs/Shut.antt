@@ -6,7 +6,7 @@ use mathlib.Core.List.{List, [], _∷_, _++_, map, List·Memᴰ·head, List·Mem
 use mathlib.Core.Logic.{_⊎_, inl, inr, ⊎-elim, _≢_}
 use mathlib.Core.Option.{Option, none, some}
 use native.Mathlib.Omega.{arith}
-use lib.ListN.{length, set, getElem? as nth}
+use lib.ListN.{length, set, replicate, getElem? as nth}
 use lib.Dec.{eqb}
 use borrow.Author.Tests.{eqb-true}
 use Rattle.table.specs.declared.index.Index.{Index}
@@ -116,6 +116,44 @@ number-in (v ∷ vs) (suc j) e = number-in vs j e
 
 pub number-there : {t : List ℕ} {fs : List Frame} {rs : List Cell} {st : List Entry} → Sound t fs rs st → (c y j : ℕ) → Exists rs c y → nth (kindsIn t y) j ≡ some number → (x : ℕ) × NumberIn rs c y j x
 number-there s c y j e d = let z = number-in (e .0) j (ap (λ (l : List ℕ). nth l j) (s .shaped c y (e .0) (e .1) .1) ∙ d) in (z .0, record { fields = e .0; exists = e .1; number = z .1 })
+
+-- what a frame holds after a push, a Call or a write to a local
+in-pushed : {v : Value} (ws ops : List Value) → Mem v (pushedOn ws ops) → Mem v ws ⊎ Mem v ops
+in-pushed [] ops m = inr m
+in-pushed (w ∷ ws) ops m = ⊎-elim (λ q. inl (List·Memᴰ·tail q)) (λ q. ⊎-elim (λ e. inl (List·Memᴰ·head e)) (λ r. inr r) (List·Memᴰ·cases-cons q)) (in-pushed ws (w ∷ ops) m)
+
+pushed-in : {v : Value} (ws ops : List Value) → Mem v ws ⊎ Mem v ops → Mem v (pushedOn ws ops)
+pushed-in [] ops m = ⊎-elim (λ q. absurd (List·Memᴰ·not-nil q)) (λ q. q) m
+pushed-in (w ∷ ws) ops m = pushed-in ws (w ∷ ops) (⊎-elim (λ q. ⊎-elim (λ e. inr (List·Memᴰ·head e)) (λ r. inl r) (List·Memᴰ·cases-cons q)) (λ q. inr (List·Memᴰ·tail q)) m)
+
+none-there : (v : Value) (k l : ℕ) → nth (replicate k none) l ≡ some (some v) → ⊥
+none-there v zero l e = clash (cc)
+none-there v (suc k) zero e = clash (cc)
+none-there v (suc k) (suc l) e = none-there v k l e
+
+in-start : (v : Value) (vs : List Value) (k l : ℕ) → nth (startLocals vs k) l ≡ some (some v) → Mem v vs
+in-start v [] k l e = absurd (none-there v k l e)
+in-start v (w ∷ vs) k zero e = let q : v ≡ w = cc in List·Memᴰ·head q
+in-start v (w ∷ vs) k (suc l) e = List·Memᴰ·tail (in-start v vs k l e)
+
+num-no-reference : (v : Value) (z : ℕ) → num z ≡ v → IsReference v → ⊥
+num-no-reference v z e r = subst (λ (x : Value). IsReference x) (sym e) r
+
+-- some frame of these holds it
+abbrev pub HeldBy : List Frame → Value → Type 0
+HeldBy fs v = (g : Frame) × Mem g fs × Holds g v
+
+held-put : {v : Value} (gs : List Frame) (f l z : ℕ) → IsReference v → HeldBy (putLocal gs f l (num z)) v → HeldBy gs v
+held-put [] f l z r h = h
+held-put {v} (frame id p i ops ls ∷ gs) f l z r h = go (eqb id f) h (held-put gs f l z r)
+  where
+    here-put : Holds (frame id p i ops (set ls l (some (num z)))) v → Holds (frame id p i ops ls) v
+    here-put (operand m) = operand m
+    here-put (local k e) = ⊎-elim (λ q. absurd (num-no-reference v z (cc (q .1)) r)) (λ q. local k q) (nth-set ls l k (some (num z)) (some v) e)
+
+    go : (b : Bool) → HeldBy (cond b (frame id p i ops (set ls l (some (num z))) ∷ gs) (frame id p i ops ls ∷ putLocal gs f l (num z))) v → (HeldBy (putLocal gs f l (num z)) v → HeldBy gs v) → HeldBy (frame id p i ops ls ∷ gs) v
+    go true (g, m, k) ih = ⊎-elim (λ e. (frame id p i ops ls, List·Memᴰ·head refl, here-put (subst (λ (x : Frame). Holds x v) e k))) (λ q. (g, List·Memᴰ·tail q, k)) (List·Memᴰ·cases-cons m)
+    go false (g, m, k) ih = ⊎-elim (λ e. (g, List·Memᴰ·head e, k)) (λ q. let w = ih (g, q, k) in (w .0, List·Memᴰ·tail (w .1), w .2)) (List·Memᴰ·cases-cons m)
 
 -- A moment: frame id of procedure p is at instruction i over the frames fs, and `row` is told
 module _ (t : List ℕ) (ix : Index) (row id p i : ℕ) (ops : List Value) (ls : List (Option Value)) (fs : List Frame) (rs : List Cell) (st : List Entry) (n : ℕ) where
@@ -293,6 +331,37 @@ module _ (t : List ℕ) (ix : Index) (row id p i : ℕ) (ops : List Value) (ls :
   borrows (nested-made a b w u) = inr (inl a)
   borrows (entry-made a b w) = inr (inr a)
 
+  -- A reference that a frame holds afterwards some frame held before, or the step made it
+  shape : {vs rest : List Value} {v : Value} → Takes t ix p i ops vs rest → Mem v vs ⊎ Mem v rest → Mem v ops
+  shape {vs} {rest} {v} e m = subst (λ (l : List Value). Mem v l) (sym (taken-shape (effectAt t ix p i ops .takes) ops vs rest e)) (pushed-in vs rest m)
+
+  fewer : {j : ℕ} {rest : List Value} {v : Value} → (Mem v rest → Mem v ops) → Holds (frame id p j rest ls) v → Holds (frame id p i ops ls) v
+  fewer f (operand m) = operand (f m)
+  fewer f (local l e) = local l e
+
+  run-or-under : {j : ℕ} {rest : List Value} {v : Value} → (Mem v rest → Mem v ops) → HeldBy (frame id p j rest ls ∷ fs) v → HeldBy (frame id p i ops ls ∷ fs) v
+  run-or-under {v} f (g, m, h) = ⊎-elim (λ e. (frame id p i ops ls, List·Memᴰ·head refl, fewer f (subst (λ (x : Frame). Holds x v) e h))) (λ q. (g, List·Memᴰ·tail q, h)) (List·Memᴰ·cases-cons m)
+
+  in-called : {vs rest : List Value} {v : Value} {m q : ℕ} (k : ℕ) → Takes t ix p i ops vs rest → Holds (frame m q 0 [] (startLocals vs k)) v → Mem v ops
+  in-called k e (operand m) = absurd (List·Memᴰ·not-nil m)
+  in-called {vs} {v} k e (local l d) = shape e (inl (in-start v vs k l d))
+
+  in-caller : {vs : List Value} {v : Value} {id′ p′ i′ : ℕ} {ops′ : List Value} {ls′ : List (Option Value)} {rest : List Frame} → Takes t ix p i ops vs [] → fs ≡ frame id′ p′ i′ ops′ ls′ ∷ rest
+      → Holds (frame id′ p′ (i′ + 1) (pushedOn vs ops′) ls′) v → HeldBy (frame id p i ops ls ∷ fs) v
+  in-caller {vs} {id′} {p′} {i′} {ops′} {ls′} e d (operand m) =
+      ⊎-elim (λ q. (frame id p i ops ls, List·Memᴰ·head refl, operand (shape e (inl q)))) (λ q. (frame id′ p′ i′ ops′ ls′, List·Memᴰ·tail (head-of d), operand q)) (in-pushed vs ops′ m)
+  in-caller {id′} {p′} {i′} {ops′} {ls′} e d (local l q) = (frame id′ p′ i′ ops′ ls′, List·Memᴰ·tail (head-of d), local l q)
+
+  from-before : {fs″ : List Frame} {m : ℕ} (v : Value) → IsReference v → Handed t ix row id p i ops ls fs n fs″ m → Origin t ix row id p i ops ls fs rs st fs″ → HeldBy fs″ v
+      → HeldBy (frame id p i ops ls ∷ fs) v ⊎ Makes t row id p ops (frame id p i ops ls ∷ fs) rs st v
+  from-before v r (goesOn a b) o (g, m, h) =
+      ⊎-elim (λ e. ⊎-elim (λ q. inl (frame id p i ops ls, List·Memᴰ·head refl, q)) (λ q. inr q) (o refl v r (subst (λ (x : Frame). Holds x v) e h))) (λ q. inl (g, List·Memᴰ·tail q, h)) (List·Memᴰ·cases-cons m)
+  from-before v r (writes {f} {l} {z} {rest} a b) o h = inl (run-or-under (λ q. rw b (List·Memᴰ·tail (List·Memᴰ·tail q))) (held-put (frame id p (i + 1) rest ls ∷ fs) f l z r h))
+  from-before v r (calls {vs} a b) o (g, m, h) =
+      inl (⊎-elim (λ e. (frame id p i ops ls, List·Memᴰ·head refl, operand (in-called (localCount (bodyOf t (rowAt t row .b)) - length vs) b (subst (λ (x : Frame). Holds x v) e h)))) (λ q. run-or-under (λ k. shape b (inr k)) (g, q, h)) (List·Memᴰ·cases-cons m))
+  from-before v r (returns a b c) o (g, m, h) =
+      inl (⊎-elim (λ e. in-caller b c (subst (λ (x : Frame). Holds x v) e h)) (λ q. (g, List·Memᴰ·tail (rw c (List·Memᴰ·tail q)), h)) (List·Memᴰ·cases-cons m))
+
   -- A step is done, to this state
   module _ (fs′ : List Frame) (rs′ : List Cell) (st′ : List Entry) (n′ : ℕ) where
     abbrev pub Done : Type 0
@@ -420,3 +489,7 @@ module _ (t : List ℕ) (ix : Index) (row id p i : ℕ) (ops : List Value) (ls :
       -- it comes to a reference that a suspended frame holds, or no frame, by a step that borrows nothing
       pub not-from-under : {v : Value} → IsReference v → Holds (frame id p j ops′ ls′) v → ¬ (Holds (frame id p i ops ls) v) → rowAt t row .a ≢ opBorrowLoc → rowAt t row .a ≢ opBorrowFld → rowAt t row .a ≢ opBorrowGlobal → Done → ⊥
       not-from-under r h m a b c s = ⊎-elim (λ q. m q) (λ q. ⊎-elim (λ u. a u) (λ u. ⊎-elim (λ w. b w) (λ w. c w) u) (borrows q)) (came r h s)
+
+    -- no frame comes to a reference that no frame held before and the step did not make
+    pub held-before : Done → (v : Value) → IsReference v → (f : Frame) → Mem f fs′ → Holds f v → ((g : Frame) × Mem g (frame id p i ops ls ∷ fs) × Holds g v) ⊎ Makes t row id p ops (frame id p i ops ls ∷ fs) rs st v
+    held-before s v r f m h = from-before v r (handed-of s) (origin-of s) (f, m, h)
