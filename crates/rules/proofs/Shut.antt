@@ -21,7 +21,7 @@ use Rattle.rules.specs.Step.{pushedOn, startLocals, Taken, missing, took
 use Rattle.rules.specs.Calls.{Call, call}
 use Rattle.rules.specs.History.{Base, base, Event, moment, ended, rowUp, begin, afterwards, nothing}
 use Rattle.rules.specs.Words.{procedureCount, moduleOf, declarer, guest, guardedField, kindsIn, bodyOf, instructionRow, Holds, operand, local, Exists, NumberIn, IsEntry, InStore}
-use Rattle.rules.specs.Claim.{All, Owned, Sound, Rising, IsReference, Labelled, Typed, typed, Linked, first, under as at-call, Kept, Writes, Proper, By, Makes, local-made, field-made, nested-made, entry-made, Takes, Handed, goesOn, writes, calls, returns, Origin, Ready, SafeState, SafeOutcome, goes, returnsLast, stops, Restored, SafeEnd, finishes, restores, Later, Safe, safe, ends}
+use Rattle.rules.specs.Claim.{All, Owned, Sound, Rising, IsReference, Labelled, Typed, typed, Linked, first, under as at-call, Kept, Writes, Proper, By, Makes, local-made, field-made, nested-made, entry-made, Takes, Handed, goesOn, writes, calls, returns, Origin, Ready, SafeState, SafeOutcome, goes, returnsLast, stops, Restored, SafeEnd, finishes, restores, Reached, Between, Later, Safe, safe, ends}
 use Rattle.rules.specs.Chain.{Moments, spent, steps, done, Chained, no-call, one-call}
 use Rattle.rules.proofs.Changes.{clash}
 use Rattle.rules.proofs.Sounds.{nth-set, head-of}
@@ -59,6 +59,11 @@ nth-inside : {A : Type 0} (l : List A) (i : ℕ) (x : A) → nth l i ≡ some x 
 nth-inside [] i x e = absurd (clash (cc))
 nth-inside (y ∷ l) zero x e = omega arith
 nth-inside (y ∷ l) (suc i) x e = omega (arith, nth-inside l i x e)
+
+nth-outside : {A : Type 0} (l : List A) (i : ℕ) → nth l i ≡ none → length l ≤ i
+nth-outside [] i e = omega arith
+nth-outside (y ∷ l) zero e = absurd (clash (cc))
+nth-outside (y ∷ l) (suc i) e = omega (arith, nth-outside l i e)
 
 -- a frame's identity, its procedure, and the row that it is at
 abbrev pub identity : Frame → ℕ
@@ -493,3 +498,121 @@ module _ (t : List ℕ) (ix : Index) (row id p i : ℕ) (ops : List Value) (ls :
     -- no frame comes to a reference that no frame held before and the step did not make
     pub held-before : Done → (v : Value) → IsReference v → (f : Frame) → Mem f fs′ → Holds f v → ((g : Frame) × Mem g (frame id p i ops ls ∷ fs) × Holds g v) ⊎ Makes t row id p ops (frame id p i ops ls ∷ fs) rs st v
     held-before s v r f m h = from-before v r (handed-of s) (origin-of s) (f, m, h)
+
+-- CLAUSE 5, `Restored`: a call is stopped
+module _ (t : List ℕ) (ix : Index) (rs : List Cell) (st : List Entry) (n : ℕ) (last : State) (row k : ℕ) (rs′ : List Cell) (st′ : List Entry) (n′ : ℕ) where
+  abbrev pub Stopped : Type 0
+  Stopped = Safe t ix (ended (base rs st n) last row (stopped k) (base rs′ st′ n′))
+
+  restored-of : Stopped → Restored t ix (base rs st n) (base rs′ st′ n′)
+  restored-of (ends (restores r) l) = r
+
+  -- it keeps a changed number
+  pub not-kept-number : (c y j : ℕ) → NumberIn rs c y j 500 → NumberIn rs′ c y j 1 → Stopped → ⊥
+  not-kept-number c y j a b s =
+      let d = restored-of s .1 c (here y (a .fields)) (a .exists) in
+      let e : a .fields ≡ b .fields = cc (d, b .exists) in
+      let w : _≡_ {A = ℕ} 500 1 = cc (e, a .number, b .number) in
+      omega arith
+
+  -- it keeps another record in a field
+  pub not-kept-nested : (c y : ℕ) {vs vs′ : List Value} → nth rs c ≡ some (here y vs) → nth rs′ c ≡ some (here y vs′) → vs ≢ vs′ → Stopped → ⊥
+  not-kept-nested c y {vs} a b f s = let d = restored-of s .1 c (here y vs) a in f (cc (d, b))
+
+  -- it keeps an entry made in it, or one that it withdrew is missing
+  pub not-kept-entry : {y a c : ℕ} → IsEntry st′ y a c → ¬ (IsEntry st y a c) → Stopped → ⊥
+  not-kept-entry e f s = f (rw (restored-of s .0) at e)
+
+  pub not-lost-entry : {y a c : ℕ} → IsEntry st y a c → ¬ (IsEntry st′ y a c) → Stopped → ⊥
+  not-lost-entry e f s = f (rw (restored-of s .0) e)
+
+  -- it keeps a record made in it, or one that it broke up is missing
+  pub not-kept-record : (c y : ℕ) → Exists rs′ c y → ¬ (Exists rs c y) → Stopped → ⊥
+  not-kept-record c y e f s = go (nth rs c) refl
+    where
+      go : (o : Option Cell) → nth rs c ≡ o → ⊥
+      go none d = restored-of s .2 c y (nth-outside rs c d) e
+      go (some x) d = f (e .0, cc (restored-of s .1 c x d, d, e .1))
+
+  pub not-lost-record : (c y : ℕ) → Exists rs c y → ¬ (Exists rs′ c y) → Stopped → ⊥
+  not-lost-record c y e f s = f (e .0, restored-of s .1 c (here y (e .0)) (e .1))
+
+-- `Later` and `Between`: a call ends, in any way
+module _ (t : List ℕ) (ix : Index) (before : Base) (fs : List Frame) (rs : List Cell) (st : List Entry) (n row : ℕ) (o : Outcome) (rs′ : List Cell) (st′ : List Entry) (n′ : ℕ) where
+  abbrev pub Ended : Type 0
+  Ended = Safe t ix (ended before (state fs rs st n) row o (base rs′ st′ n′))
+
+  later-of : Ended → Later t ix (state fs rs st n) (base rs′ st′ n′)
+  later-of (ends d l) = l
+
+  -- the count of frames goes back, or that of records: identities are used again
+  pub not-frames-again : n′ < n → Ended → ⊥
+  not-frames-again l s = omega (arith, later-of s .1, l)
+
+  pub not-records-again : length rs′ < length rs → Ended → ⊥
+  not-records-again l s = omega (arith, later-of s .0, l)
+
+  -- a record lives on that is in no entry and in no record under one
+  pub not-adrift : {c y : ℕ} → Exists rs′ c y → ¬ (Reached rs′ st′ c) → Ended → ⊥
+  not-adrift {c} {y} e f s = f (later-of s .2 .reached c y e)
+
+-- THE CHAIN, `Moments` and `Chained`
+module _ (t : List ℕ) (ix : Index) where
+  -- a call's moments begin with its first state
+  starts : {budget : ℕ} {s z : State} {o : Outcome} {es : List Event} → Moments t ix budget s es z o → (o′ : Outcome) × (more : List Event) × (es ≡ moment s (rowUp t ix s) o′ ∷ more)
+  starts {o} spent = (o, [], refl)
+  starts (steps {s′} {es} e m) = (next s′, es, refl)
+  starts {o} (done e f) = (o, [], refl)
+
+  -- a place in the events of a call and what follows them is one in the call's, or in what follows
+  in-rest : {budget : ℕ} {s z : State} {o : Outcome} {es : List Event} → Moments t ix budget s es z o → (rest front : List Event) (b : Base) (z′ : State) (r : ℕ) (o′ : Outcome) (b′ : Base) (more : List Event)
+      → es ++ rest ≡ front ++ (ended b z′ r o′ b′ ∷ more) → (f : List Event) × (rest ≡ f ++ (ended b z′ r o′ b′ ∷ more))
+  in-rest spent rest [] b z′ r o′ b′ more e = absurd (clash (cc))
+  in-rest spent rest (x ∷ f) b z′ r o′ b′ more e = (f, tail-same e)
+  in-rest (steps d m) rest [] b z′ r o′ b′ more e = absurd (clash (cc))
+  in-rest (steps d m) rest (x ∷ f) b z′ r o′ b′ more e = in-rest m rest f b z′ r o′ b′ more (tail-same e)
+  in-rest (done d g) rest [] b z′ r o′ b′ more e = absurd (clash (cc))
+  in-rest (done d g) rest (x ∷ f) b z′ r o′ b′ more e = (f, tail-same e)
+
+  -- what stands after the end of a call is chained from what it left
+  onwards : {cs : List Call} {b : Base} {l : List Event} → Chained t ix cs b l → (front : List Event) (b₁ : Base) (z : State) (r : ℕ) (o : Outcome) (b₂ : Base) (more : List Event) → l ≡ front ++ (ended b₁ z r o b₂ ∷ more)
+      → (cs′ : List Call) × Chained t ix cs′ b₂ more
+  onwards no-call [] b₁ z r o b₂ more e = absurd (clash (cc))
+  onwards no-call (x ∷ front) b₁ z r o b₂ more e = absurd (clash (cc))
+  onwards (one-call {cs} {b} {more = rest} {z = y} {o = w} m c) front b₁ z r o b₂ more e =
+      let k = in-rest m (ended b y (rowUp t ix y) w (afterwards b y w) ∷ rest) front b₁ z r o b₂ more e in
+      go (k .0) (k .1) (λ f q. onwards c f b₁ z r o b₂ more q)
+    where
+      go : (f : List Event) → ended b y (rowUp t ix y) w (afterwards b y w) ∷ rest ≡ f ++ (ended b₁ z r o b₂ ∷ more) → ((f : List Event) → rest ≡ f ++ (ended b₁ z r o b₂ ∷ more) → (cs′ : List Call) × Chained t ix cs′ b₂ more)
+          → (cs′ : List Call) × Chained t ix cs′ b₂ more
+      go [] q ih = let u : afterwards b y w ≡ b₂ = cc in let v : rest ≡ more = cc in (cs, rw (← u, ← v) c)
+      go (x ∷ f) q ih = ih f (tail-same q)
+
+  -- a moment says what the step does, or that the budget is spent, and the next one stands where the step leads
+  abbrev Led : State → Outcome → List Event → Type 0
+  Led s o more = ((o ≡ step t ix s) ⊎ (o ≡ stopped budgetSpent)) × ((s′ : State) → o ≡ next s′ → (o′ : Outcome) × (l : List Event) × (more ≡ moment s′ (rowUp t ix s′) o′ ∷ l))
+
+  led-in : {budget : ℕ} {s₀ z : State} {o₀ : Outcome} {es : List Event} → Moments t ix budget s₀ es z o₀ → (rest front : List Event) (s : State) (r : ℕ) (o : Outcome) (more : List Event) → es ++ rest ≡ front ++ (moment s r o ∷ more)
+      → Led s o more ⊎ ((f : List Event) × (rest ≡ f ++ (moment s r o ∷ more)))
+  led-in spent rest [] s r o more e = let u : o ≡ stopped budgetSpent = cc in inl (inr u, λ s′ q. absurd (clash (cc (u, q))))
+  led-in spent rest (x ∷ f) s r o more e = inr (f, tail-same e)
+  led-in (steps {s = s₀} {s′ = s₁} {es} d m) rest [] s r o more e =
+      let a : s₀ ≡ s = cc in let b : o ≡ next s₁ = cc in let c : es ++ rest ≡ more = cc in let k = starts m in
+      inl (inl (b ∙ sym d ∙ ap (step t ix) a), λ s′ q. let w : s₁ ≡ s′ = cc (b, q) in rw (← w) (k .0, k .1 ++ rest, sym c ∙ ap (λ (l : List Event). l ++ rest) (k .2)))
+  led-in (steps d m) rest (x ∷ f) s r o more e = led-in m rest f s r o more (tail-same e)
+  led-in (done {s = s₀} {o = o₁} d g) rest [] s r o more e =
+      let a : s₀ ≡ s = cc in let b : o₁ ≡ o = cc in inl (inl (sym b ∙ sym d ∙ ap (step t ix) a), λ s′ q. absurd (g s′ (b ∙ q)))
+  led-in (done d g) rest (x ∷ f) s r o more e = inr (f, tail-same e)
+
+  led : {cs : List Call} {b : Base} {l : List Event} → Chained t ix cs b l → (front : List Event) (s : State) (r : ℕ) (o : Outcome) (more : List Event) → l ≡ front ++ (moment s r o ∷ more) → Led s o more
+  led no-call [] s r o more e = absurd (clash (cc))
+  led no-call (x ∷ front) s r o more e = absurd (clash (cc))
+  led (one-call {b} {more = rest} {z} {o = w} m c) front s r o more e =
+      ⊎-elim (λ q. q) (λ q. go (q .0) (q .1) (λ f u. led c f s r o more u)) (led-in m (ended b z (rowUp t ix z) w (afterwards b z w) ∷ rest) front s r o more e)
+    where
+      go : (f : List Event) → ended b z (rowUp t ix z) w (afterwards b z w) ∷ rest ≡ f ++ (moment s r o ∷ more) → ((f : List Event) → rest ≡ f ++ (moment s r o ∷ more) → Led s o more) → Led s o more
+      go [] q ih = absurd (clash (cc))
+      go (x ∷ f) q ih = ih f (tail-same q)
+
+  begun : {q budget : ℕ} {args : List ℕ} {cs : List Call} {b : Base} {l : List Event} → Chained t ix (call q budget args ∷ cs) b l → (s : State) (r : ℕ) (o : Outcome) (more : List Event) → l ≡ moment s r o ∷ more → s ≡ begin t ix q args b
+  begun (one-call m c) s r o more e = let k = starts m in cc (k .2, e)
