@@ -13,7 +13,7 @@ use Rattle.table.specs.declared.index.Index.{Index}
 use Rattle.table.specs.Format.{instructionKind, opWriteRef, opBorrowLoc, opBorrowFld, opBorrowGlobal, opCall, opRet, opPack, opUnpack, opMoveTo, opMoveFrom}
 use Rattle.table.specs.Rows.{rowAt, kindAt}
 use Rattle.table.specs.Index.{ownerAt}
-use Rattle.program.specs.Program.{number, numberRef, localKind, localCount}
+use Rattle.program.specs.Program.{number, numberRef, procedureIn, localKind, localCount}
 use Rattle.rules.specs.Limits.{budgetSpent}
 use Rattle.reach.specs.Reach.{Mem}
 use Rattle.rules.specs.Machine.{Value, valueKind, num, obj, toLocal, toField, toRecord, putLocal, Cell, gone, here, Entry, Frame, frame, State, state, Outcome, next, finished, stopped, stuck, aRecord, target}
@@ -556,6 +556,11 @@ module _ (t : List ℕ) (ix : Index) (before : Base) (fs : List Frame) (rs : Lis
   pub not-adrift : {c y : ℕ} → Exists rs′ c y → ¬ (Reached rs′ st′ c) → Ended → ⊥
   not-adrift {c} {y} e f s = f (later-of s .2 .reached c y e)
 
+argument-at : (args : List ℕ) (k j x : ℕ) → nth args j ≡ some x → nth (startLocals (map num args) k) j ≡ some (some (num x))
+argument-at [] k j x e = absurd (clash (cc))
+argument-at (a ∷ args) k zero x e = cc (e)
+argument-at (a ∷ args) k (suc j) x e = argument-at args k j x e
+
 -- THE CHAIN, `Moments` and `Chained`
 module _ (t : List ℕ) (ix : Index) where
   -- a call's moments begin with its first state
@@ -616,3 +621,69 @@ module _ (t : List ℕ) (ix : Index) where
 
   begun : {q budget : ℕ} {args : List ℕ} {cs : List Call} {b : Base} {l : List Event} → Chained t ix (call q budget args ∷ cs) b l → (s : State) (r : ℕ) (o : Outcome) (more : List Event) → l ≡ moment s r o ∷ more → s ≡ begin t ix q args b
   begun (one-call m c) s r o more e = let k = starts m in cc (k .2, e)
+
+  begins : {cs : List Call} {b : Base} {l : List Event} → Chained t ix cs b l → (s : State) (r : ℕ) (o : Outcome) (more : List Event) → l ≡ moment s r o ∷ more → (q : ℕ) × (args : List ℕ) × (s ≡ begin t ix q args b)
+  begins no-call s r o more e = absurd (clash (cc))
+  begins (one-call {q} {args} m c) s r o more e = (q, args, begun (one-call m c) s r o more e)
+
+  begins-after : {cs : List Call} {b : Base} (front : List Event) (b₁ : Base) (z : State) (r : ℕ) (o : Outcome) (b₂ : Base) (s : State) (r′ : ℕ) (o′ : Outcome) (more : List Event)
+      → Chained t ix cs b (front ++ (ended b₁ z r o b₂ ∷ moment s r′ o′ ∷ more)) → (q : ℕ) × (args : List ℕ) × (s ≡ begin t ix q args b₂)
+  begins-after front b₁ z r o b₂ s r′ o′ more c = begins (onwards c front b₁ z r o b₂ (moment s r′ o′ ∷ more) refl .1) s r′ o′ more refl
+
+  no-more : {cs : List Call} {b : Base} {l : List Event} {e : Event} {es : List Event} → Chained t ix cs b l → cs ≡ [] → l ≡ e ∷ es → ⊥
+  no-more no-call d e = clash (cc)
+  no-more (one-call m c) d e = clash (cc)
+
+  empty : {q budget : ℕ} {args : List ℕ} {cs : List Call} {b : Base} {l : List Event} → Chained t ix (call q budget args ∷ cs) b l → l ≡ [] → ⊥
+  empty (one-call m c) e = let k = starts m in clash (cc (k .2, e))
+
+  -- Anywhere in the events of a list of calls, from any base
+  module _ (cs : List Call) (b : Base) (front more : List Event) (s : State) (r : ℕ) where
+    -- a moment is left out, or another state is put in its place: the next one does not stand where the step led
+    pub not-skipped : (s′ s″ : State) (r′ : ℕ) (o : Outcome) → s″ ≢ s′ → Chained t ix cs b (front ++ (moment s r (next s′) ∷ moment s″ r′ o ∷ more)) → ⊥
+    not-skipped s′ s″ r′ o f c = let k = led c front s r (next s′) (moment s″ r′ o ∷ more) refl .1 s′ refl in f (cc (k .2))
+
+    -- a call ends after a step that goes on; the events end there
+    pub not-broken-off : (s′ last : State) (b₁ b₂ : Base) (r′ : ℕ) (o : Outcome) → Chained t ix cs b (front ++ (moment s r (next s′) ∷ ended b₁ last r′ o b₂ ∷ more)) → ⊥
+    not-broken-off s′ last b₁ b₂ r′ o c = let k = led c front s r (next s′) (ended b₁ last r′ o b₂ ∷ more) refl .1 s′ refl in clash (cc (k .2))
+
+    pub not-cut : (s′ : State) → Chained t ix cs b (front ++ (moment s r (next s′) ∷ [])) → ⊥
+    not-cut s′ c = let k = led c front s r (next s′) [] refl .1 s′ refl in clash (cc (k .2))
+
+    -- a moment says that something else was done than the step does
+    pub not-led : (o : Outcome) → o ≢ step t ix s → o ≢ stopped budgetSpent → Chained t ix cs b (front ++ (moment s r o ∷ more)) → ⊥
+    not-led o f g c = ⊎-elim (λ q. f q) (λ q. g q) (led c front s r o more refl .0)
+
+    -- a call begins with another store than the one before left, the empty one for instance, or with other records
+    module _ (rs rs′ : List Cell) (st st′ : List Entry) (n n′ r′ : ℕ) (b₁ : Base) (fs : List Frame) (o o′ : Outcome) where
+      abbrev Apart : Type 0
+      Apart = Chained t ix cs b (front ++ (ended b₁ s r o (base rs st n) ∷ moment (state fs rs′ st′ n′) r′ o′ ∷ more))
+
+      pub not-from-another-store : st′ ≢ st → Apart → ⊥
+      not-from-another-store f c = let w = begins-after front b₁ s r o (base rs st n) (state fs rs′ st′ n′) r′ o′ more c in f (cc (w .2))
+
+      pub not-from-other-records : rs′ ≢ rs → Apart → ⊥
+      not-from-other-records f c = let w = begins-after front b₁ s r o (base rs st n) (state fs rs′ st′ n′) r′ o′ more c in f (cc (w .2))
+
+  -- A call of procedure q with these arguments
+  module _ (q budget : ℕ) (args : List ℕ) (cs : List Call) (rs₀ : List Cell) (st₀ : List Entry) (n₀ : ℕ) where
+    -- its events are left out, though it is in the list; there are events, though it is not
+    pub not-left-out : Chained t ix (call q budget args ∷ cs) (base rs₀ st₀ n₀) [] → ⊥
+    not-left-out c = empty c refl
+
+    pub not-invented : (e : Event) (es : List Event) → Chained t ix [] (base rs₀ st₀ n₀) (e ∷ es) → ⊥
+    not-invented e es c = no-more c refl refl
+
+    -- its first moment is of another procedure, or with another argument
+    module _ (id p i : ℕ) (ops : List Value) (ls : List (Option Value)) (fs : List Frame) (rs : List Cell) (st : List Entry) (n r : ℕ) (o : Outcome) (more : List Event) where
+      abbrev First : Type 0
+      First = Chained t ix (call q budget args ∷ cs) (base rs₀ st₀ n₀) (moment (state (frame id p i ops ls ∷ fs) rs st n) r o ∷ more)
+
+      pub not-another-procedure : p ≢ q → First → ⊥
+      not-another-procedure f c = let w = begun c (state (frame id p i ops ls ∷ fs) rs st n) r o more refl in f (cc (w))
+
+      pub not-another-argument : (j : ℕ) → nth args j ≡ some 7 → nth ls j ≡ some (some (num 8)) → First → ⊥
+      not-another-argument j a d c =
+          let w = begun c (state (frame id p i ops ls ∷ fs) rs st n) r o more refl in
+          let u : _≡_ {A = ℕ} 7 8 = cc (w, d, argument-at args (localCount (procedureIn ix q) - length args) j 7 a) in
+          omega arith
