@@ -33,6 +33,7 @@ use Rattle.rules.proofs.Indexed.{moduleIn, declarerIn, guardedIn}
 use Rattle.rules.specs.Claim.{All, none-left, also, Owned, IsNumber}
 use Rattle.rules.proofs.Counts.{held-rev, held-set, held-start, heap-set, heap-snoc, alive-set, alive-snoc, alive-put, vals-set, same-one, alive-gone, find-drop, put-set}
 use Rattle.rules.proofs.Changes.{clash, Change, same, wrote, packed, unpacked, published, withdrew}
+use Rattle.rules.proofs.Sounds.{nth-inside}
 use Rattle.rules.proofs.Sorts.{reference-loose}
 use Rattle.rules.proofs.Typing.{Word, Fit, fnum, fobj, floc, ffld, frec, Has, hnil, hcons, has-push, has-more, Slots, slots-more, Fields, CellOk, cells-more, EntryOk, entries-more, snoc-more, snoc-last}
 use Rattle.rules.proofs.Places.{as-fields, of-fields, loose, as-number, as-record, slot-full, slot-clear, slot-put, slot-free, emptied}
@@ -453,12 +454,6 @@ are-numbers : {t : List ℕ} {T W : List ℕ} {m : ℕ} {vs : List Value} {bs : 
 unfolding allNumbers
 are-numbers [] e hnil = none-left
 are-numbers (k ∷ ks) e (hcons f h) = let c = and-both _ _ e in also (as-number f (eqb-true k number (c .0))) (are-numbers ks (c .1) h)
-
--- a place that holds something is inside
-nth-inside : (ks : List ℕ) (l k : ℕ) → nth ks l ≡ some k → l < length ks
-nth-inside [] l k e = absurd (clash (cc))
-nth-inside (x ∷ ks) zero k e = omega arith
-nth-inside (x ∷ ks) (suc l) k e = omega (arith, nth-inside ks l k e)
 
 -- the results reach the caller
 pub arrive : {t : List ℕ} {T W : List ℕ} {q : ℕ} {fs : List Frame} (vs : List Value) (h : List Cell) (st : List Entry) (n : ℕ) → Suspended t (indexOf t) T W q fs

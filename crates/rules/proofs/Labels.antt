@@ -24,18 +24,13 @@ use Rattle.rules.specs.Words.{procedureCount, kindsIn, bodyOf, instructi
 use Rattle.rules.specs.Claim.{All, none-left, also, Owned, Labelled, Typed, typed, Linked, first, under}
 use Rattle.rules.proofs.Counts.{same-one, alive-gone}
 use Rattle.rules.proofs.Changes.{clash}
+use Rattle.rules.proofs.Sounds.{nth-inside}
 use Rattle.rules.proofs.Typing.{Fit, fnum, fobj, floc, ffld, frec, fit-kind, CellOk}
 use Rattle.rules.proofs.Frames.{FrameOk, Suspended, bottom, over, Stack, runs, typeOf, cell-at}
 use Rattle.rules.proofs.Guests.{has-place, slot-place}
 use Rattle.rules.proofs.Owning.{held-once}
 use Rattle.rules.proofs.Worded.{procedures-are, type-is, type-absent, procedure-is}
 use Rattle.rules.proofs.Placed.{place-is, end-is, row-is}
-
--- what stands in a list stands below its length
-nth-low : (l : List ℕ) (i x : ℕ) → nth l i ≡ some x → i < length l
-nth-low [] i x e = absurd (clash (cc))
-nth-low (y ∷ l) zero x e = omega arith
-nth-low (y ∷ l) (suc i) x e = omega (arith, nth-low l i x e)
 
 -- what a frame holds is counted
 local-once : (id y : ℕ) (ls : List (Option Value)) (l : ℕ) → nth ls l ≡ some (some (obj id y)) → 1 ≤ inLocals id ls
@@ -92,7 +87,7 @@ module _ (t : List ℕ) (J : Judged t (indexOf t)) (a : AcceptedTable t) (T W : 
     labelled (fobj {id} {y} e q) c =
         ⊎-elim (λ g. absurd (omega (arith, owned id, c id y refl, alive-gone id h y g))) (λ g. (g .0, g .1)) (cell-at t (indexOf t) T h id y (rw types e) records)
     labelled (floc {f} {l} {p} {c = k} e d r q) c = (
-      omega (arith, serial, nth-low W f p e),
+      omega (arith, serial, nth-inside W f p e),
       r,
       λ p′ i ops ls m. let z = named-there f p′ i ops ls named m in let u : p ≡ p′ = cc (e, z .0) in local-is p′ l k (z .1) (rw u at d),
     )

@@ -25,4 +25,5 @@ pub mod Demand3
 pub mod Printed
 pub mod Ends
 pub mod Lengths
+pub mod Consequences
 pub mod Shut

@@ -40,6 +40,11 @@ module _ {A : Type 0} where
   nth-app (x ∷ h) l zero d e = e
   nth-app (x ∷ h) l (suc id) d e = nth-app h l id d e
 
+  pub nth-inside : (h : List A) (id : ℕ) (d : A) → nth h id ≡ some d → id < length h
+  nth-inside [] id d e = absurd (clash (cc))
+  nth-inside (x ∷ h) zero d e = omega arith
+  nth-inside (x ∷ h) (suc id) d e = omega (arith, nth-inside h id d e)
+
   pub nth-snoc : (h : List A) (c : A) (id : ℕ) (d : A) → nth (h ++ (c ∷ [])) id ≡ some d → (nth h id ≡ some d) ⊎ (c ≡ d)
   nth-snoc [] c zero d e = inr (cc)
   nth-snoc [] c (suc id) d e = absurd (clash (cc))
