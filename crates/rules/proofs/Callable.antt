@@ -26,7 +26,7 @@ use Rattle.rules.specs.Claim.{All, none-left, also}
 use Rattle.rules.specs.Callable.{Callable, GoodCall}
 
 -- tests that fail, and tests that hold, together
-both-fail : (a b : Bool) → (a || b) ≡ false → (a ≡ false) × (b ≡ false)
+pub both-fail : (a b : Bool) → (a || b) ≡ false → (a ≡ false) × (b ≡ false)
 both-fail true b e = absurd (true≢false e)
 both-fail false b e = (refl, e)
 

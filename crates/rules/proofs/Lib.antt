@@ -26,4 +26,5 @@ pub mod Printed
 pub mod Ends
 pub mod Lengths
 pub mod Consequences
+pub mod Guarded
 pub mod Shut

@@ -51,11 +51,11 @@ first-kind (suc (suc (suc (suc (suc (suc zero)))))) e = absurd (false≢true e)
 first-kind (suc (suc (suc (suc (suc (suc (suc zero))))))) e = absurd (false≢true e)
 first-kind (suc (suc (suc (suc (suc (suc (suc (suc k)))))))) e = absurd (false≢true e)
 
-not-not : (b : Bool) → not b ≡ false → b ≡ true
+pub not-not : (b : Bool) → not b ≡ false → b ≡ true
 not-not true e = refl
 not-not false e = absurd (true≢false e)
 
-both : (a b : Bool) → (a && b) ≡ true → (a ≡ true) × (b ≡ true)
+pub both : (a b : Bool) → (a && b) ≡ true → (a ≡ true) × (b ≡ true)
 both true b e = (refl, e)
 both false b e = absurd (false≢true e)
 
@@ -69,11 +69,11 @@ unfolding isKind
 hit-kind t k i e = eqb-true _ _ e
 
 module _ (t : List ℕ) (a : AcceptedTable t) where
-  fine : (i : ℕ) → i < rowCount t → faultAt t i ≡ 0
+  pub fine : (i : ℕ) → i < rowCount t → faultAt t i ≡ 0
   fine = rows-fine t (rowCount t) (a .byRows)
 
   -- the index covers every row
-  covers : indexedRows t ≡ rowCount t
+  pub covers : indexedRows t ≡ rowCount t
   covers = let v : valueOf (judgeOf t) ≤ 2048 = value-small t in let l : rowCount t ≤ 2048 = rw (accepting t a) at v in omega (arith, l)
 
   pub types-are : indexOf t .types ≡ typeCount t
