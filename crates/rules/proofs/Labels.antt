@@ -38,7 +38,7 @@ local-once id y [] l e = absurd (clash (cc))
 local-once id y (o ∷ ls) zero e = let z : o ≡ some (obj id y) = cc in rw z (omega (arith, same-one id))
 local-once id y (o ∷ ls) (suc l) e = omega (arith, local-once id y ls l e)
 
-held-counted : (id y : ℕ) (f : Frame) (fs : List Frame) → Mem f fs → Holds f (obj id y) → 1 ≤ inFrames id fs
+pub held-counted : (id y : ℕ) (f : Frame) (fs : List Frame) → Mem f fs → Holds f (obj id y) → 1 ≤ inFrames id fs
 held-counted id y f [] m h = absurd (List·Memᴰ·not-nil m)
 held-counted id y f (frame a p i ops ls ∷ fs) m h = ⊎-elim (λ e. omega (arith, here-counted (rw e at h))) (λ r. omega (arith, held-counted id y f fs r h)) (List·Memᴰ·cases-cons m)
   where

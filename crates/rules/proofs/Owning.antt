@@ -98,12 +98,12 @@ entry-typed T (entry z b c ∷ st) y a id (also k q) m =
     ⊎-elim (λ e. let u : y ≡ z = cc in let w : id ≡ c = cc in rw (u, w) (k .0)) (λ r. entry-typed T st y a id q r) (List·Memᴰ·cases-cons m)
 
 -- and it is counted
-entry-counted : (st : List Entry) (y a id : ℕ) → IsEntry st y a id → 1 ≤ inStore id st
+pub entry-counted : (st : List Entry) (y a id : ℕ) → IsEntry st y a id → 1 ≤ inStore id st
 entry-counted [] y a id m = absurd (List·Memᴰ·not-nil m)
 entry-counted (entry z b c ∷ st) y a id m =
     ⊎-elim (λ e. let w : id ≡ c = cc in rw (← w) (omega (arith, same-one id))) (λ r. omega (arith, entry-counted st y a id r)) (List·Memᴰ·cases-cons m)
 
-lives-once : (h : List Cell) (id y : ℕ) (vs : List Value) → nth h id ≡ some (here y vs) → livesAt h id ≡ 1
+pub lives-once : (h : List Cell) (id y : ℕ) (vs : List Value) → nth h id ≡ some (here y vs) → livesAt h id ≡ 1
 lives-once [] id y vs e = absurd (clash (cc))
 lives-once (c ∷ h) zero y vs e = let z : c ≡ here y vs = cc in rw z refl
 lives-once (c ∷ h) (suc id) y vs e = lives-once h id y vs e

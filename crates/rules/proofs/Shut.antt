@@ -18,11 +18,14 @@ use Rattle.rules.specs.Machine.{Value, valueKind, num, obj, toLocal, toF
 use Rattle.rules.specs.Step.{pushedOn, effectAt, step}
 use Rattle.rules.specs.Calls.{Call, call}
 use Rattle.rules.specs.History.{Base, base, Event, moment, ended}
+use Rattle.rules.specs.Ownership.{inFrames, inRecords, inStore}
 use Rattle.rules.specs.Words.{procedureCount, moduleOf, declarer, guest, guardedField, kindsIn, bodyOf, instructionRow, Holds, operand, local, Exists, NumberIn, IsEntry, InStore}
-use Rattle.rules.specs.Claim.{Rising, IsReference, Typed, Writes, Proper, Makes, Takes, Handed, Origin, Ready, SafeState, SafeOutcome, goes, returnsLast, stops, Restored, restores, Reached, Later, Safe, safe, ends}
+use Rattle.rules.specs.Claim.{All, IsNumber, Rising, IsReference, Typed, Writes, Proper, Makes, Takes, Handed, Origin, Ready, SafeState, SafeOutcome, goes, returnsLast, stops, Restored, finishes, restores, Reached, Later, Safe, safe, ends}
 use Rattle.rules.specs.Chain.{Chained}
 use Rattle.rules.proofs.Changes.{clash}
 use Rattle.rules.proofs.Sounds.{nth-set, head-of, nth-inside}
+use Rattle.rules.proofs.Owning.{held-once, in-cells, entry-counted, lives-once}
+use Rattle.rules.proofs.Labels.{held-counted}
 use Rattle.rules.proofs.Handing.{all-out, taken-shape}
 use Rattle.rules.proofs.Consequences.{taken-kinds, length-pushed, pushed-same, nth-outside, identity, procedure, rowOf, label, placed, stands, rises, risen, number-there, under-same, called-as, to-field, borrows, argument-at, led, begun, begins-after, no-more, empty}
 
@@ -143,6 +146,25 @@ module _ (t : List ℕ) (ix : Index) (row id p i : ℕ) (ops : List Value) (ls :
 
   pub not-entry-of-other : {o : Outcome} {c y a y′ : ℕ} {vs : List Value} → IsEntry st y a c → nth rs c ≡ some (here y′ vs) → y′ ≢ y → SafeWith o → ⊥
   not-entry-of-other {c} {y} {a} e d f s = let z = safe-state s .sound .entered y a c e in f (cc (d, z .1))
+
+  -- a record is in two places: a frame holds it, and it is an entry or stands in a field
+  pub not-in-two-places : {o : Outcome} {c y y′ a : ℕ} {f : Frame} → Mem f (frame id p i ops ls ∷ fs) → Holds f (obj c y) → IsEntry st y′ a c → SafeWith o → ⊥
+  not-in-two-places {c} {y} {y′} {a} {f} m h e s =
+      let z = safe-state s .sound .entered y′ a c e in
+      omega (arith, safe-state s .sound .owned c, held-counted c y f (frame id p i ops ls ∷ fs) m h, entry-counted st y′ a c e, lives-once rs c y′ (z .0) (z .1))
+
+  pub not-held-and-nested : {o : Outcome} {c y : ℕ} {f : Frame} {vs : List Value} (d z : ℕ) → Mem f (frame id p i ops ls ∷ fs) → Holds f (obj c y) → nth rs d ≡ some (here z vs) → Mem (obj c y) vs → SafeWith o → ⊥
+  not-held-and-nested {c} {y} {f} {vs} d z m h e k s =
+      let w = safe-state s .sound .nested d z vs e c y k .1 in
+      omega (arith, safe-state s .sound .owned c, held-counted c y f (frame id p i ops ls ∷ fs) m h, held-once c y vs k, in-cells c d z rs vs e, lives-once rs c y (w .0) (w .1))
+
+  -- a record is in no place: it was dropped
+  pub not-dropped : {o : Outcome} (c y : ℕ) → Exists rs c y → inFrames c (frame id p i ops ls ∷ fs) + inRecords c rs + inStore c st ≡ 0 → SafeWith o → ⊥
+  not-dropped c y e z s = omega (arith, z, safe-state s .sound .owned c, lives-once rs c y (e .0) (e .1))
+
+  -- a record stands in a field of its own
+  pub not-in-itself : {o : Outcome} (c y : ℕ) {y′ : ℕ} {vs : List Value} → nth rs c ≡ some (here y vs) → Mem (obj c y′) vs → SafeWith o → ⊥
+  not-in-itself c y {y′} {vs} e m s = let z = safe-state s .sound .nested c y vs e c y′ m in let w : y ≡ y′ = cc (e, z .1 .1) in omega (arith, z .0, w)
 
   -- FRAMES, `Linked` and `Rising`: frame g waits directly under frame f
   module _ {o : Outcome} (above : List Frame) (f g : Frame) (rest : List Frame) (waits : frame id p i ops ls ∷ fs ≡ above ++ (f ∷ g ∷ rest)) where
@@ -362,6 +384,21 @@ module _ (t : List ℕ) (ix : Index) (before : Base) (fs : List Frame) (rs : Lis
   pub not-adrift : {c y : ℕ} → Exists rs′ c y → ¬ (Reached rs′ st′ c) → Ended → ⊥
   not-adrift {c} {y} e f s = f (later-of s .2 .reached c y e)
 
+-- `SafeEnd`: a call is done
+module _ (t : List ℕ) (ix : Index) (before : Base) (last : State) (row : ℕ) (vs : List Value) where
+  left-as : {z : State} {after : Base} → Safe t ix (ended before last row (finished vs z) after) → (rs : List Cell) × (st : List Entry) × (n : ℕ) × (z ≡ state [] rs st n) × (after ≡ base rs st n)
+  left-as (ends (finishes {rs} {st} {n} a b) l) = (rs, st, n, refl, refl)
+
+  numbers-only : {z : State} {after : Base} → Safe t ix (ended before last row (finished vs z) after) → All IsNumber vs
+  numbers-only (ends (finishes a b) l) = a
+
+  -- it leaves other entries or records than its last step; it returns something else than a number
+  pub not-left-else : {fs : List Frame} {rs rs′ : List Cell} {st st′ : List Entry} {n n′ : ℕ} → (st′ ≢ st) ⊎ (rs′ ≢ rs) → Safe t ix (ended before last row (finished vs (state fs rs st n)) (base rs′ st′ n′)) → ⊥
+  not-left-else f s = let z = left-as s in ⊎-elim (λ u. u (cc (z .3, z .4))) (λ u. u (cc (z .3, z .4))) f
+
+  pub not-no-number : {v : Value} {z : State} {after : Base} → Mem v vs → ¬ (IsNumber v) → Safe t ix (ended before last row (finished vs z) after) → ⊥
+  not-no-number {v} m f s = f (all-out (numbers-only s) v m)
+
 -- THE CHAIN, `Moments` and `Chained`
 module _ (t : List ℕ) (ix : Index) where
   -- Anywhere in the events of a list of calls, from any base
@@ -408,6 +445,10 @@ module _ (t : List ℕ) (ix : Index) where
 
       pub not-another-procedure : p ≢ q → First → ⊥
       not-another-procedure f c = let w = begun t ix c (state (frame id p i ops ls ∷ fs) rs st n) r o more refl in f (cc (w))
+
+      -- from another store than there is; under an old identity; or over another frame
+      pub not-another-start : (st ≢ st₀) ⊎ ((id ≢ n₀) ⊎ (fs ≢ [])) → First → ⊥
+      not-another-start f c = let w = begun t ix c (state (frame id p i ops ls ∷ fs) rs st n) r o more refl in ⊎-elim (λ u. u (cc (w))) (λ u. ⊎-elim (λ v. v (cc (w))) (λ v. v (cc (w))) u) f
 
       pub not-another-argument : (j : ℕ) → nth args j ≡ some 7 → nth ls j ≡ some (some (num 8)) → First → ⊥
       not-another-argument j a d c =
