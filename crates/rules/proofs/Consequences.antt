@@ -297,4 +297,3 @@ module _ (t : List ℕ) (ix : Index) where
 
   pub empty : {q budget : ℕ} {args : List ℕ} {cs : List Call} {b : Base} {l : List Event} → Chained t ix (call q budget args ∷ cs) b l → l ≡ [] → ⊥
   empty (one-call m c) e = let k = starts m in clash (cc (k .2, e))
-
