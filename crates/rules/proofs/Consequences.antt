@@ -1,7 +1,7 @@
 -- What follows from the claim: of operands taken, frames, numbers, references, and what stands between the moments of a list of calls.
 use Prim.Native.Nat.{ℕ, zero, suc, _+_, _-_, _<_, _≤_}
 use mathlib.Core.Path.{_≡_, refl, ap, sym, subst, _∙_}
-use mathlib.Core.Bool.{Bool, true, false, cond}
+use mathlib.Core.Bool.{Bool, true, false, cond, _&&_}
 use mathlib.Core.List.{List, [], _∷_, _++_, map, List·Memᴰ·head, List·Memᴰ·tail, List·Memᴰ·cases-cons, List·Memᴰ·not-nil}
 use mathlib.Core.Logic.{_⊎_, inl, inr, ⊎-elim, _≢_}
 use mathlib.Core.Option.{Option, none, some}
@@ -15,11 +15,11 @@ use Rattle.table.specs.Rows.{rowAt}
 use Rattle.program.specs.Program.{number, localKind, localCount}
 use Rattle.rules.specs.Limits.{budgetSpent}
 use Rattle.reach.specs.Reach.{Mem}
-use Rattle.rules.specs.Machine.{Value, valueKind, num, obj, toLocal, toField, toRecord, putLocal, Cell, Entry, Frame, frame, State, state, Outcome, next, stopped, aRecord, target}
+use Rattle.rules.specs.Machine.{Value, valueKind, num, obj, toLocal, toField, toRecord, putLocal, localOf, findKey, Cell, gone, here, Entry, entry, Frame, frame, State, state, Outcome, next, stopped, aRecord, inCell, inLocal, target}
 use Rattle.rules.specs.Step.{pushedOn, startLocals, Taken, missing, took, alsoTaken, taken, effectAt, step}
 use Rattle.rules.specs.Calls.{Call, call}
 use Rattle.rules.specs.History.{Base, Event, moment, ended, rowUp, begin, afterwards}
-use Rattle.rules.specs.Words.{procedureCount, kindsIn, bodyOf, instructionRow, Holds, operand, local, Exists, NumberIn}
+use Rattle.rules.specs.Words.{procedureCount, kindsIn, bodyOf, instructionRow, Holds, operand, local, Exists, NumberIn, IsEntry}
 use Rattle.rules.specs.Claim.{Sound, Rising, IsReference, Labelled, Typed, typed, Linked, first, under as at-call, Makes, local-made, field-made, nested-made, entry-made, Takes, Handed, goesOn, writes, calls, returns, Origin, goes, Safe, safe}
 use Rattle.rules.specs.Chain.{Moments, spent, steps, done, Chained, no-call, one-call}
 use Rattle.rules.proofs.Changes.{clash}
@@ -132,6 +132,11 @@ in-start v [] k l e = absurd (none-there v k l e)
 in-start v (w ∷ vs) k zero e = let q : v ≡ w = cc in List·Memᴰ·head q
 in-start v (w ∷ vs) k (suc l) e = List·Memᴰ·tail (in-start v vs k l e)
 
+pub start-at : (vs : List Value) (k j : ℕ) (v : Value) → nth vs j ≡ some v → nth (startLocals vs k) j ≡ some (some v)
+start-at [] k j v e = absurd (clash (cc))
+start-at (w ∷ vs) k zero v e = cc (e)
+start-at (w ∷ vs) k (suc j) v e = start-at vs k j v e
+
 num-no-reference : (v : Value) (z : ℕ) → num z ≡ v → IsReference v → ⊥
 num-no-reference v z e r = subst (λ (x : Value). IsReference x) (sym e) r
 
@@ -165,6 +170,40 @@ module _ {t : List ℕ} {ix : Index} {row id p i n : ℕ} {ops : List Value} {ls
   called-as e d (calls a b) = (ap identity (head-same (sym d)), refl)
   called-as e d (returns a b c) = absurd (omega arith)
 
+  -- what a Call takes is in the called frame's locals, in order; what Ret takes lies on the caller's operands
+  pub called-with : {fs″ : List Frame} {m id′ p′ i′ : ℕ} {ops′ vs rest : List Value} {ls′ : List (Option Value)} {gs : List Frame} → rowAt t row .a ≡ opCall → fs″ ≡ frame id′ p′ i′ ops′ ls′ ∷ gs → Takes t ix p i ops vs rest
+      → Handed t ix row id p i ops ls fs n fs″ m → (j : ℕ) (v : Value) → nth vs j ≡ some v → nth ls′ j ≡ some (some v)
+  called-with e d w (goesOn a b) j v q = absurd (a e)
+  called-with e d w (writes a b) j v q = absurd (omega arith)
+  called-with {vs} {ls′} e d w (calls {vs = us} a b) j v q =
+      let z : us ≡ vs = cc (b, w) in
+      let k : startLocals us (localCount (bodyOf t (rowAt t row .b)) - length us) ≡ ls′ = cc (d) in
+      rw (← k) (start-at us (localCount (bodyOf t (rowAt t row .b)) - length us) j v (rw (← z) at q))
+  called-with e d w (returns a b c) j v q = absurd (omega arith)
+
+  pub returned-to : {fs″ : List Frame} {m id′ p′ i′ id″ p″ i″ : ℕ} {ops′ ops″ vs rest : List Value} {ls′ ls″ : List (Option Value)} {gs hs : List Frame} → rowAt t row .a ≡ opRet → fs ≡ frame id′ p′ i′ ops′ ls′ ∷ gs
+      → fs″ ≡ frame id″ p″ i″ ops″ ls″ ∷ hs → Takes t ix p i ops vs rest → Handed t ix row id p i ops ls fs n fs″ m → ops″ ≡ pushedOn vs ops′
+  returned-to e g d w (goesOn a b) = absurd (b e)
+  returned-to e g d w (writes a b) = absurd (omega arith)
+  returned-to e g d w (calls a b) = absurd (omega arith)
+  returned-to {ops′} {vs} e g d w (returns {vs = us} {ops′ = os} a b c) = let z : us ≡ vs = cc (b, w) in let k : os ≡ ops′ = cc (c, g) in rw (← z, ← k) (cc (d))
+
+-- where a search in records and store leads
+leads-to : (id : ℕ) (o : Option Cell) {d : ℕ} {fields : List Value} → inCell id o ≡ aRecord d fields → d ≡ id
+leads-to id none e = absurd (clash (cc))
+leads-to id (some (gone y)) e = absurd (clash (cc))
+leads-to id (some (here y vs)) e = cc
+
+found-there : (st : List Entry) (y a c : ℕ) → findKey st y a ≡ some c → IsEntry st y a c
+found-there [] y a c e = absurd (clash (cc))
+found-there (entry y′ a′ id ∷ st) y a c e = go (eqb y′ y) (eqb a′ a) refl refl e (found-there st y a c)
+  where
+    go : (b d : Bool) → eqb y′ y ≡ b → eqb a′ a ≡ d → cond (b && d) (some id) (findKey st y a) ≡ some c → (findKey st y a ≡ some c → IsEntry st y a c) → IsEntry (entry y′ a′ id ∷ st) y a c
+    go true true p q u ih = let z : id ≡ c = cc in let w : entry y a c ≡ entry y′ a′ id = cc (eqb-true y′ y p, eqb-true a′ a q, z) in List·Memᴰ·head w
+    go true false p q u ih = List·Memᴰ·tail (ih u)
+    go false true p q u ih = List·Memᴰ·tail (ih u)
+    go false false p q u ih = List·Memᴰ·tail (ih u)
+
 -- what a reference that is made leads to, and the opcodes that make one
 module _ {t : List ℕ} {row id p i : ℕ} {ops : List Value} {ls : List (Option Value)} {fs : List Frame} {rs : List Cell} {st : List Entry} where
   pub to-field : {c y j d : ℕ} {v r : Value} {rest fields : List Value} → v ≡ toField c y j → ops ≡ r ∷ rest → target (frame id p i ops ls ∷ fs) rs r ≡ aRecord d fields → Makes t row id p ops (frame id p i ops ls ∷ fs) rs st v → c ≡ d
@@ -172,6 +211,33 @@ module _ {t : List ℕ} {row id p i : ℕ} {ops : List Value} {ls : List (Option
   to-field {r} e s z (field-made {r = q} a b w) = let x : q ≡ r = cc (b, s) in cc (e, rw x at w, z)
   to-field e s z (nested-made a b w u) = absurd (clash (cc))
   to-field e s z (entry-made a b w) = absurd (clash (cc))
+
+  -- through a reference to a record, to a field of that record; through one to a local, to a field of the record in it
+  pub through-record : {c y j c′ y′ : ℕ} {v : Value} {rest : List Value} → v ≡ toField c y j → ops ≡ toRecord c′ y′ ∷ rest → Makes t row id p ops (frame id p i ops ls ∷ fs) rs st v → c ≡ c′
+  through-record e s (local-made a) = absurd (clash (cc))
+  through-record {c′} {y′} e s (field-made {r = q} {c = d} a b w) = let x : q ≡ toRecord c′ y′ = cc (b, s) in let u = leads-to c′ (nth rs c′) (rw x at w) in cc (e, u)
+  through-record e s (nested-made a b w u) = absurd (clash (cc))
+  through-record e s (entry-made a b w) = absurd (clash (cc))
+
+  pub through-local : {c y j f l k c′ y′ : ℕ} {v : Value} {rest : List Value} → v ≡ toField c y j → ops ≡ toLocal f l k ∷ rest → localOf (frame id p i ops ls ∷ fs) f l ≡ some (obj c′ y′)
+      → Makes t row id p ops (frame id p i ops ls ∷ fs) rs st v → c ≡ c′
+  through-local e s z (local-made a) = absurd (clash (cc))
+  through-local {f} {l} {k} {c′} e s z (field-made {r = q} {fields} {c = d} a b w) =
+      let x : q ≡ toLocal f l k = cc (b, s) in
+      let g : inLocal rs (localOf (frame id p i ops ls ∷ fs) f l) ≡ aRecord d fields = rw x at w in
+      let u = leads-to c′ (nth rs c′) (sym (ap (inLocal rs) z) ∙ g) in
+      cc (e, u)
+  through-local e s z (nested-made a b w u) = absurd (clash (cc))
+  through-local e s z (entry-made a b w) = absurd (clash (cc))
+
+  -- BorrowGlobal's is to the record under the key
+  pub to-entry : {c y a : ℕ} {v : Value} {rest : List Value} → v ≡ toRecord c y → rowAt t row .a ≡ opBorrowGlobal → ops ≡ num a ∷ rest → Makes t row id p ops (frame id p i ops ls ∷ fs) rs st v → IsEntry st y a c
+  to-entry e g s (local-made b) = absurd (clash (cc))
+  to-entry e g s (field-made b d w) = absurd (clash (cc))
+  to-entry e g s (nested-made b d w u) = absurd (omega (arith, b, g))
+  to-entry {c} {y} {a} e g s (entry-made {a = a′} {c = c′} b d w) =
+      let x : a′ ≡ a = cc (d, s) in let u : c′ ≡ c = cc (e) in let q : rowAt t row .b ≡ y = cc (e) in
+      rw (← x, ← u, ← q) (found-there st (rowAt t row .b) a′ c′ w)
 
   pub borrows : {v : Value} → Makes t row id p ops (frame id p i ops ls ∷ fs) rs st v → (rowAt t row .a ≡ opBorrowLoc) ⊎ ((rowAt t row .a ≡ opBorrowFld) ⊎ (rowAt t row .a ≡ opBorrowGlobal))
   borrows (local-made a) = inl a
@@ -215,12 +281,6 @@ module _ (t : List ℕ) (ix : Index) (row id p i : ℕ) (ops : List Value) (ls :
   pub held-before : {fs′ : List Frame} {rs′ : List Cell} {st′ : List Entry} {n′ : ℕ} → Safe t ix (moment (state (frame id p i ops ls ∷ fs) rs st n) row (next (state fs′ rs′ st′ n′)))
       → (v : Value) → IsReference v → (f : Frame) → Mem f fs′ → Holds f v → HeldBy (frame id p i ops ls ∷ fs) v ⊎ Makes t row id p ops (frame id p i ops ls ∷ fs) rs st v
   held-before (safe s (goes a b c)) v r f m h = from-before v r b c (f, m, h)
-
--- how a called frame's locals start with the arguments
-pub argument-at : (args : List ℕ) (k j x : ℕ) → nth args j ≡ some x → nth (startLocals (map num args) k) j ≡ some (some (num x))
-argument-at [] k j x e = absurd (clash (cc))
-argument-at (a ∷ args) k zero x e = cc (e)
-argument-at (a ∷ args) k (suc j) x e = argument-at args k j x e
 
 -- the events of a list of calls
 module _ (t : List ℕ) (ix : Index) where

@@ -1,5 +1,5 @@
 -- Wrong events are not safe, and wrong lists of events are not chained: for each clause of the claim, the wrong machines that it shuts out.
-use Prim.Native.Nat.{ℕ, _+_, _-_, _<_, _≤_}
+use Prim.Native.Nat.{ℕ, zero, suc, _+_, _-_, _<_, _≤_}
 use mathlib.Core.Path.{_≡_, refl, ap, sym, subst, _∙_}
 use mathlib.Core.Bool.{true, false}
 use mathlib.Core.List.{List, [], _∷_, _++_, map, List·Memᴰ·head, List·Memᴰ·tail}
@@ -14,7 +14,7 @@ use Rattle.table.specs.Index.{ownerAt}
 use Rattle.program.specs.Program.{number, numberRef, procedureIn, localKind, localCount}
 use Rattle.rules.specs.Limits.{budgetSpent}
 use Rattle.reach.specs.Reach.{Mem}
-use Rattle.rules.specs.Machine.{Value, valueKind, num, obj, toLocal, toField, Cell, gone, here, Entry, Frame, frame, State, state, Outcome, next, finished, stopped, stuck, aRecord, target}
+use Rattle.rules.specs.Machine.{Value, valueKind, num, obj, toLocal, toField, toRecord, localOf, Cell, gone, here, Entry, Frame, frame, State, state, Outcome, next, finished, stopped, stuck, aRecord, target}
 use Rattle.rules.specs.Step.{pushedOn, effectAt, step}
 use Rattle.rules.specs.Calls.{Call, call}
 use Rattle.rules.specs.History.{Base, base, Event, moment, ended}
@@ -27,7 +27,12 @@ use Rattle.rules.proofs.Sounds.{nth-set, head-of, nth-inside}
 use Rattle.rules.proofs.Owning.{held-once, in-cells, entry-counted, lives-once}
 use Rattle.rules.proofs.Labels.{held-counted}
 use Rattle.rules.proofs.Handing.{all-out, taken-shape}
-use Rattle.rules.proofs.Consequences.{taken-kinds, length-pushed, pushed-same, nth-outside, identity, procedure, rowOf, label, placed, stands, rises, risen, number-there, under-same, called-as, to-field, borrows, argument-at, led, begun, begins-after, no-more, empty}
+use Rattle.rules.proofs.Consequences.{taken-kinds, length-pushed, pushed-same, nth-outside, identity, procedure, rowOf, label, placed, stands, rises, risen, number-there, under-same, called-as, to-field, borrows, start-at, called-with, returned-to, through-record, through-local, to-entry, led, begun, begins-after, no-more, empty}
+
+map-at : (args : List ℕ) (j : ℕ) {x : ℕ} → nth args j ≡ some x → nth (map num args) j ≡ some (num x)
+map-at [] j e = absurd (clash (cc))
+map-at (a ∷ args) zero e = cc (e)
+map-at (a ∷ args) (suc j) e = map-at args j e
 
 -- A moment: frame id of procedure p is at instruction i over the frames fs, and `row` is told
 module _ (t : List ℕ) (ix : Index) (row id p i : ℕ) (ops : List Value) (ls : List (Option Value)) (fs : List Frame) (rs : List Cell) (st : List Entry) (n : ℕ) where
@@ -313,6 +318,15 @@ module _ (t : List ℕ) (ix : Index) (row id p i : ℕ) (ops : List Value) (ls :
     pub not-uncounted : {f : Frame} {gs : List Frame} → rowAt t row .a ≡ opCall → fs′ ≡ f ∷ gs → n′ ≢ n + 1 → Done → ⊥
     not-uncounted e d f s = f (called-as e d (handed-of s) .1)
 
+    -- a called frame gets another value for a parameter than the Call takes there; the caller gets another result than Ret takes
+    pub not-another-parameter : {id′ p′ i′ : ℕ} {ops′ vs rest : List Value} {ls′ : List (Option Value)} {gs : List Frame} {v : Value} (j : ℕ) → rowAt t row .a ≡ opCall → fs′ ≡ frame id′ p′ i′ ops′ ls′ ∷ gs → Takes t ix p i ops vs rest
+        → nth vs j ≡ some v → nth ls′ j ≢ some (some v) → Done → ⊥
+    not-another-parameter {v} j e d w q f s = f (called-with e d w (handed-of s) j v q)
+
+    pub not-another-result : {id′ p′ i′ id″ p″ i″ : ℕ} {ops′ ops″ rest : List Value} {ls′ ls″ : List (Option Value)} {gs hs : List Frame} {v : Value} → rowAt t row .a ≡ opRet → fs ≡ frame id′ p′ i′ ops′ ls′ ∷ gs
+        → fs′ ≡ frame id″ p″ i″ ops″ ls″ ∷ hs → Takes t ix p i ops (v ∷ []) rest → ops″ ≢ v ∷ ops′ → Done → ⊥
+    not-another-result e g d w f s = f (returned-to e g d w (handed-of s))
+
     -- REFERENCES, `Origin`
     module _ {j : ℕ} {ops′ : List Value} {ls′ : List (Option Value)} {gs : List Frame} (top : fs′ ≡ frame id p j ops′ ls′ ∷ gs) where
       came : {v : Value} → IsReference v → Holds (frame id p j ops′ ls′) v → Done → Holds (frame id p i ops ls) v ⊎ Makes t row id p ops (frame id p i ops ls ∷ fs) rs st v
@@ -322,6 +336,19 @@ module _ (t : List ℕ) (ix : Index) (row id p i : ℕ) (ops : List Value) (ls :
       pub not-another : {c y k d : ℕ} {r : Value} {rest fields : List Value} → Holds (frame id p j ops′ ls′) (toField c y k) → ¬ (Holds (frame id p i ops ls) (toField c y k)) → ops ≡ r ∷ rest
           → target (frame id p i ops ls ∷ fs) rs r ≡ aRecord d fields → c ≢ d → Done → ⊥
       not-another h m e z f s = ⊎-elim (λ q. m q) (λ q. f (to-field refl e z q)) (came tt h s)
+
+      -- the same where the operand is a reference to a record; to a local that holds a record
+      pub not-another-record : {c y k c′ y′ : ℕ} {rest : List Value} → Holds (frame id p j ops′ ls′) (toField c y k) → ¬ (Holds (frame id p i ops ls) (toField c y k)) → ops ≡ toRecord c′ y′ ∷ rest → c ≢ c′ → Done → ⊥
+      not-another-record h m e f s = ⊎-elim (λ q. m q) (λ q. f (through-record refl e q)) (came tt h s)
+
+      pub not-another-local : {c y k g l z c′ y′ : ℕ} {rest : List Value} → Holds (frame id p j ops′ ls′) (toField c y k) → ¬ (Holds (frame id p i ops ls) (toField c y k)) → ops ≡ toLocal g l z ∷ rest
+          → localOf (frame id p i ops ls ∷ fs) g l ≡ some (obj c′ y′) → c ≢ c′ → Done → ⊥
+      not-another-local h m e d f s = ⊎-elim (λ q. m q) (λ q. f (through-local refl e d q)) (came tt h s)
+
+      -- BorrowGlobal gives a reference to another record than the one under the key
+      pub not-another-entry : {c y a : ℕ} {rest : List Value} → Holds (frame id p j ops′ ls′) (toRecord c y) → ¬ (Holds (frame id p i ops ls) (toRecord c y)) → rowAt t row .a ≡ opBorrowGlobal → ops ≡ num a ∷ rest → ¬ (IsEntry st y a c)
+          → Done → ⊥
+      not-another-entry h m g e f s = ⊎-elim (λ q. m q) (λ q. f (to-entry refl g e q)) (came tt h s)
 
       -- it comes to a reference that a suspended frame holds, or no frame, by a step that borrows nothing
       pub not-from-under : {v : Value} → IsReference v → Holds (frame id p j ops′ ls′) v → ¬ (Holds (frame id p i ops ls) v) → rowAt t row .a ≢ opBorrowLoc → rowAt t row .a ≢ opBorrowFld → rowAt t row .a ≢ opBorrowGlobal → Done → ⊥
@@ -453,5 +480,5 @@ module _ (t : List ℕ) (ix : Index) where
       pub not-another-argument : (j : ℕ) → nth args j ≡ some 7 → nth ls j ≡ some (some (num 8)) → First → ⊥
       not-another-argument j a d c =
           let w = begun t ix c (state (frame id p i ops ls ∷ fs) rs st n) r o more refl in
-          let u : _≡_ {A = ℕ} 7 8 = cc (w, d, argument-at args (localCount (procedureIn ix q) - length args) j 7 a) in
+          let u : _≡_ {A = ℕ} 7 8 = cc (w, d, start-at (map num args) (localCount (procedureIn ix q) - length args) j (num 7) (map-at args j a)) in
           omega arith
