@@ -28,3 +28,4 @@ pub mod Lengths
 pub mod Consequences
 pub mod Guarded
 pub mod Shut
+pub mod ShutCalls
