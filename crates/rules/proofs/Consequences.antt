@@ -137,24 +137,29 @@ start-at [] k j v e = absurd (clash (cc))
 start-at (w ∷ vs) k zero v e = cc (e)
 start-at (w ∷ vs) k (suc j) v e = start-at vs k j v e
 
-num-no-reference : (v : Value) (z : ℕ) → num z ≡ v → IsReference v → ⊥
-num-no-reference v z e r = subst (λ (x : Value). IsReference x) (sym e) r
-
 -- some frame of these holds it
 abbrev pub HeldBy : List Frame → Value → Type 0
 HeldBy fs v = (g : Frame) × Mem g fs × Holds g v
 
-held-put : {v : Value} (gs : List Frame) (f l z : ℕ) → IsReference v → HeldBy (putLocal gs f l (num z)) v → HeldBy gs v
-held-put [] f l z r h = h
-held-put {v} (frame id p i ops ls ∷ gs) f l z r h = go (eqb id f) h (held-put gs f l z r)
+-- the frame with this one's identity does
+abbrev HeldAs : List Frame → Value → Frame → Type 0
+HeldAs fs v g = (g′ : Frame) × Mem g′ fs × Holds g′ v × (identity g′ ≡ identity g)
+
+-- what is no number a frame holds after a write to a local only if it held it before
+held-put : {v : Value} (gs : List Frame) (f l z : ℕ) → num z ≢ v → (g : Frame) → Mem g (putLocal gs f l (num z)) → Holds g v → HeldAs gs v g
+held-put [] f l z r g m h = (g, m, h, refl)
+held-put {v} (frame id p i ops ls ∷ gs) f l z r g m h = go (eqb id f) m (λ q. held-put gs f l z r g q h)
   where
     here-put : Holds (frame id p i ops (set ls l (some (num z)))) v → Holds (frame id p i ops ls) v
-    here-put (operand m) = operand m
-    here-put (local k e) = ⊎-elim (λ q. absurd (num-no-reference v z (cc (q .1)) r)) (λ q. local k q) (nth-set ls l k (some (num z)) (some v) e)
+    here-put (operand q) = operand q
+    here-put (local k e) = ⊎-elim (λ q. absurd (r (cc (q .1)))) (λ q. local k q) (nth-set ls l k (some (num z)) (some v) e)
 
-    go : (b : Bool) → HeldBy (cond b (frame id p i ops (set ls l (some (num z))) ∷ gs) (frame id p i ops ls ∷ putLocal gs f l (num z))) v → (HeldBy (putLocal gs f l (num z)) v → HeldBy gs v) → HeldBy (frame id p i ops ls ∷ gs) v
-    go true (g, m, k) ih = ⊎-elim (λ e. (frame id p i ops ls, List·Memᴰ·head refl, here-put (subst (λ (x : Frame). Holds x v) e k))) (λ q. (g, List·Memᴰ·tail q, k)) (List·Memᴰ·cases-cons m)
-    go false (g, m, k) ih = ⊎-elim (λ e. (g, List·Memᴰ·head e, k)) (λ q. let w = ih (g, q, k) in (w .0, List·Memᴰ·tail (w .1), w .2)) (List·Memᴰ·cases-cons m)
+    go : (b : Bool) → Mem g (cond b (frame id p i ops (set ls l (some (num z))) ∷ gs) (frame id p i ops ls ∷ putLocal gs f l (num z))) → (Mem g (putLocal gs f l (num z)) → HeldAs gs v g) → HeldAs (frame id p i ops ls ∷ gs) v g
+    go true q ih = ⊎-elim (λ e. (frame id p i ops ls, List·Memᴰ·head refl, here-put (subst (λ (x : Frame). Holds x v) e h), ap identity (sym e))) (λ u. (g, List·Memᴰ·tail u, h, refl)) (List·Memᴰ·cases-cons q)
+    go false q ih = ⊎-elim (λ e. (g, List·Memᴰ·head e, h, refl)) (λ u. let w = ih u in (w .0, List·Memᴰ·tail (w .1), w .2, w .3)) (List·Memᴰ·cases-cons q)
+
+no-number : (v : Value) (z : ℕ) → IsReference v → num z ≢ v
+no-number v z r e = subst (λ (x : Value). IsReference x) (sym e) r
 
 -- what a step leaves of the frames, by its opcode
 module _ {t : List ℕ} {ix : Index} {row id p i n : ℕ} {ops : List Value} {ls : List (Option Value)} {fs : List Frame} where
@@ -169,6 +174,27 @@ module _ {t : List ℕ} {ix : Index} {row id p i n : ℕ} {ops : List Value} {ls
   called-as e d (writes a b) = absurd (omega arith)
   called-as e d (calls a b) = (ap identity (head-same (sym d)), refl)
   called-as e d (returns a b c) = absurd (omega arith)
+
+  pub call-under : {fs″ : List Frame} {m : ℕ} {f g : Frame} {gs : List Frame} → rowAt t row .a ≡ opCall → fs″ ≡ f ∷ g ∷ gs → Handed t ix row id p i ops ls fs n fs″ m → (gs ≡ fs) × (identity g ≡ id)
+  call-under e d (goesOn a b) = absurd (a e)
+  call-under e d (writes a b) = absurd (omega arith)
+  call-under e d (calls a b) = (cc (d), ap identity (head-same (tail-same (sym d))))
+  call-under e d (returns a b c) = absurd (omega arith)
+
+  pub ret-under : {fs″ : List Frame} {m : ℕ} {f g : Frame} {gs rest : List Frame} → rowAt t row .a ≡ opRet → fs ≡ f ∷ rest → fs″ ≡ g ∷ gs → Handed t ix row id p i ops ls fs n fs″ m → gs ≡ rest
+  ret-under e c d (goesOn a b) = absurd (b e)
+  ret-under e c d (writes a b) = absurd (omega arith)
+  ret-under e c d (calls a b) = absurd (omega arith)
+  ret-under e c d (returns a b q) = cc (c, d, q)
+
+  pub write-under : {fs″ : List Frame} {m c y : ℕ} {g : Frame} → rowAt t row .a ≡ opWriteRef → Mem g fs″ → Holds g (obj c y) → identity g ≢ id → Handed t ix row id p i ops ls fs n fs″ m
+      → (g′ : Frame) × Mem g′ fs × Holds g′ (obj c y) × (identity g′ ≡ identity g)
+  write-under {g} e k h f (goesOn a b) = ⊎-elim (λ q. absurd (f (ap identity q))) (λ q. (g, q, h, refl)) (List·Memᴰ·cases-cons k)
+  write-under {g} e k h f (writes {f = u} {l} {z} {rest} a b) =
+      let w = held-put (frame id p (i + 1) rest ls ∷ fs) u l z (λ q. clash (cc (q))) g k h in
+      ⊎-elim (λ q. absurd (f (sym (w .3) ∙ ap identity q))) (λ q. (w .0, q, w .2, w .3)) (List·Memᴰ·cases-cons (w .1))
+  write-under e k h f (calls a b) = absurd (omega arith)
+  write-under e k h f (returns a b c) = absurd (omega arith)
 
   -- what a Call takes is in the called frame's locals, in order; what Ret takes lies on the caller's operands
   pub called-with : {fs″ : List Frame} {m id′ p′ i′ : ℕ} {ops′ vs rest : List Value} {ls′ : List (Option Value)} {gs : List Frame} → rowAt t row .a ≡ opCall → fs″ ≡ frame id′ p′ i′ ops′ ls′ ∷ gs → Takes t ix p i ops vs rest
@@ -271,7 +297,8 @@ module _ (t : List ℕ) (ix : Index) (row id p i : ℕ) (ops : List Value) (ls :
       → HeldBy (frame id p i ops ls ∷ fs) v ⊎ Makes t row id p ops (frame id p i ops ls ∷ fs) rs st v
   from-before v r (goesOn a b) o (g, m, h) =
       ⊎-elim (λ e. ⊎-elim (λ q. inl (frame id p i ops ls, List·Memᴰ·head refl, q)) (λ q. inr q) (o refl v r (subst (λ (x : Frame). Holds x v) e h))) (λ q. inl (g, List·Memᴰ·tail q, h)) (List·Memᴰ·cases-cons m)
-  from-before v r (writes {f} {l} {z} {rest} a b) o h = inl (run-or-under (λ q. rw b (List·Memᴰ·tail (List·Memᴰ·tail q))) (held-put (frame id p (i + 1) rest ls ∷ fs) f l z r h))
+  from-before v r (writes {f} {l} {z} {rest} a b) o (g, m, h) =
+      let w = held-put (frame id p (i + 1) rest ls ∷ fs) f l z (no-number v z r) g m h in inl (run-or-under (λ q. rw b (List·Memᴰ·tail (List·Memᴰ·tail q))) (w .0, w .1, w .2))
   from-before v r (calls {vs} a b) o (g, m, h) =
       inl (⊎-elim (λ e. (frame id p i ops ls, List·Memᴰ·head refl, operand (in-called (localCount (bodyOf t (rowAt t row .b)) - length vs) b (subst (λ (x : Frame). Holds x v) e h)))) (λ q. run-or-under (λ k. shape b (inr k)) (g, q, h)) (List·Memᴰ·cases-cons m))
   from-before v r (returns a b c) o (g, m, h) =

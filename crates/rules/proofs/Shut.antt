@@ -25,7 +25,7 @@ use Rattle.rules.proofs.Sounds.{nth-set, head-of, nth-inside}
 use Rattle.rules.proofs.Owning.{held-once, in-cells, entry-counted, lives-once}
 use Rattle.rules.proofs.Labels.{held-counted}
 use Rattle.rules.proofs.Handing.{all-out, taken-shape}
-use Rattle.rules.proofs.Consequences.{taken-kinds, length-pushed, pushed-same, identity, procedure, rowOf, label, placed, stands, rises, risen, number-there, under-same, called-as, to-field, borrows, called-with, returned-to, through-record, through-local, to-entry}
+use Rattle.rules.proofs.Consequences.{taken-kinds, length-pushed, pushed-same, identity, procedure, rowOf, label, placed, stands, rises, risen, number-there, under-same, call-under, ret-under, write-under, called-as, to-field, borrows, called-with, returned-to, through-record, through-local, to-entry}
 
 -- A moment: frame id of procedure p is at instruction i over the frames fs, and `row` is told
 module _ (t : List ℕ) (ix : Index) (row id p i : ℕ) (ops : List Value) (ls : List (Option Value)) (fs : List Frame) (rs : List Cell) (st : List Entry) (n : ℕ) where
@@ -303,6 +303,17 @@ module _ (t : List ℕ) (ix : Index) (row id p i : ℕ) (ops : List Value) (ls :
     -- records are swapped with those of a suspended frame: frames under the running one change by a step that is no WriteRef, Call or Ret
     pub not-reached-under : {g : Frame} {gs : List Frame} → fs′ ≡ g ∷ gs → rowAt t row .a ≢ opWriteRef → rowAt t row .a ≢ opCall → rowAt t row .a ≢ opRet → gs ≢ fs → Done → ⊥
     not-reached-under {g} {gs} e a b c f s = f (under-same g gs e a b c (handed-of s))
+
+    -- a Call changes the frames under the caller; a Ret those under it
+    pub not-reached-by-call : {f g : Frame} {gs : List Frame} → rowAt t row .a ≡ opCall → fs′ ≡ f ∷ g ∷ gs → gs ≢ fs → Done → ⊥
+    not-reached-by-call e d f s = f (call-under e d (handed-of s) .0)
+
+    pub not-reached-by-ret : {f g : Frame} {gs rest : List Frame} → rowAt t row .a ≡ opRet → fs ≡ f ∷ rest → fs′ ≡ g ∷ gs → gs ≢ rest → Done → ⊥
+    not-reached-by-ret e c d f s = f (ret-under e c d (handed-of s))
+
+    -- by a WriteRef a suspended frame comes to a record that it did not hold
+    pub not-swapped-by-write : {g : Frame} {c y : ℕ} → rowAt t row .a ≡ opWriteRef → Mem g fs′ → Holds g (obj c y) → identity g ≢ id → ((g′ : Frame) → Mem g′ fs → identity g′ ≡ identity g → ¬ (Holds g′ (obj c y))) → Done → ⊥
+    not-swapped-by-write e m h d f s = let w = write-under e m h d (handed-of s) in f (w .0) (w .1) (w .3) (w .2)
 
     -- a called frame does not get the count of frames as its identity, or the count stays
     pub not-an-old-frame : {f : Frame} {gs : List Frame} → rowAt t row .a ≡ opCall → fs′ ≡ f ∷ gs → identity f ≢ n → Done → ⊥
