@@ -20,7 +20,7 @@ use Rattle.rules.specs.Step.{pushedOn, startLocals, Taken, missing, took
 use Rattle.rules.specs.Calls.{Call, call}
 use Rattle.rules.specs.History.{Base, Event, moment, ended, rowUp, begin, afterwards}
 use Rattle.rules.specs.Words.{procedureCount, kindsIn, bodyOf, instructionRow, Holds, operand, local, Exists, NumberIn, IsEntry}
-use Rattle.rules.specs.Claim.{Sound, Rising, IsReference, Labelled, Typed, typed, Linked, first, under as at-call, Makes, local-made, field-made, nested-made, entry-made, Takes, Handed, goesOn, writes, calls, returns, Origin, goes, Safe, safe}
+use Rattle.rules.specs.Claim.{Sound, Rising, IsReference, Labelled, Typed, typed, Linked, first, under as at-call, Makes, local-made, field-made, nested-made, entry-made, Takes, Handed, goesOn, writes, calls, returns, Origin, SafeState, goes, Safe, safe}
 use Rattle.rules.specs.Chain.{Moments, spent, steps, done, Chained, no-call, one-call}
 use Rattle.rules.proofs.Changes.{clash}
 use Rattle.rules.proofs.Sounds.{nth-set, head-of}
@@ -160,6 +160,11 @@ held-put {v} (frame id p i ops ls ∷ gs) f l z r g m h = go (eqb id f) m (λ q.
 
 no-number : (v : Value) (z : ℕ) → IsReference v → num z ≢ v
 no-number v z r e = subst (λ (x : Value). IsReference x) (sym e) r
+
+-- the state of a safe moment
+pub safe-state : {t : List ℕ} {ix : Index} {row id p i n : ℕ} {ops : List Value} {ls : List (Option Value)} {fs : List Frame} {rs : List Cell} {st : List Entry} {o : Outcome}
+    → Safe t ix (moment (state (frame id p i ops ls ∷ fs) rs st n) row o) → SafeState t ix row id p i ops ls fs rs st n
+safe-state (safe s d) = s
 
 -- what a step leaves of the frames, by its opcode
 module _ {t : List ℕ} {ix : Index} {row id p i n : ℕ} {ops : List Value} {ls : List (Option Value)} {fs : List Frame} where

@@ -28,4 +28,5 @@ pub mod Lengths
 pub mod Consequences
 pub mod Guarded
 pub mod Shut
+pub mod ShutSteps
 pub mod ShutCalls
