@@ -174,11 +174,21 @@ module _ {t : List ℕ} {ix : Index} {row id p i n : ℕ} {ops : List Value} {ls
   under-same g gs e a b c (calls d f) = absurd (b d)
   under-same g gs e a b c (returns d f h) = absurd (c d)
 
-  pub called-as : {fs″ : List Frame} {m : ℕ} {f : Frame} {gs : List Frame} → rowAt t row .a ≡ opCall → fs″ ≡ f ∷ gs → Handed t ix row id p i ops ls fs n fs″ m → (identity f ≡ n) × (m ≡ n + 1)
+  pub called-as : {fs″ : List Frame} {m : ℕ} {f : Frame} {gs : List Frame} → rowAt t row .a ≡ opCall → fs″ ≡ f ∷ gs → Handed t ix row id p i ops ls fs n fs″ m → (identity f ≡ n) × (m ≡ n + 1) × (procedure f ≡ rowAt t row .b)
   called-as e d (goesOn a b) = absurd (a e)
   called-as e d (writes a b) = absurd (omega arith)
-  called-as e d (calls a b) = (ap identity (head-same (sym d)), refl)
+  called-as e d (calls a b) = (ap identity (head-same (sym d)), refl, ap procedure (head-same (sym d)))
   called-as e d (returns a b c) = absurd (omega arith)
+
+  pub runs-on : {fs″ : List Frame} {m : ℕ} {f : Frame} {gs : List Frame} → fs″ ≡ f ∷ gs → rowAt t row .a ≢ opCall → rowAt t row .a ≢ opRet → Handed t ix row id p i ops ls fs n fs″ m → (procedure f ≡ p) × (identity f ≡ id)
+  runs-on e a b (goesOn c d) = (ap procedure (head-same (sym e)), ap identity (head-same (sym e)))
+  runs-on e a b (writes {f = g} {l} {z} {rest} c d) = go (eqb id g) e
+    where
+      go : (b : Bool) {f : Frame} {gs : List Frame} → cond b (frame id p (i + 1) rest (set ls l (some (num z))) ∷ fs) (frame id p (i + 1) rest ls ∷ putLocal fs g l (num z)) ≡ f ∷ gs → (procedure f ≡ p) × (identity f ≡ id)
+      go true q = (ap procedure (head-same (sym q)), ap identity (head-same (sym q)))
+      go false q = (ap procedure (head-same (sym q)), ap identity (head-same (sym q)))
+  runs-on e a b (calls c d) = absurd (a c)
+  runs-on e a b (returns c d f) = absurd (b c)
 
   pub call-under : {fs″ : List Frame} {m : ℕ} {f g : Frame} {gs : List Frame} → rowAt t row .a ≡ opCall → fs″ ≡ f ∷ g ∷ gs → Handed t ix row id p i ops ls fs n fs″ m → (gs ≡ fs) × (identity g ≡ id)
   call-under e d (goesOn a b) = absurd (a e)
@@ -242,6 +252,12 @@ module _ {t : List ℕ} {row id p i : ℕ} {ops : List Value} {ls : List (Option
   to-field {r} e s z (field-made {r = q} a b w) = let x : q ≡ r = cc (b, s) in cc (e, rw x at w, z)
   to-field e s z (nested-made a b w u) = absurd (clash (cc))
   to-field e s z (entry-made a b w) = absurd (clash (cc))
+
+  pub to-local : {f l k : ℕ} {v : Value} → v ≡ toLocal f l k → Makes t row id p ops (frame id p i ops ls ∷ fs) rs st v → f ≡ id
+  to-local e (local-made a) = cc (e)
+  to-local e (field-made a b w) = absurd (clash (cc))
+  to-local e (nested-made a b w u) = absurd (clash (cc))
+  to-local e (entry-made a b w) = absurd (clash (cc))
 
   -- through a reference to a record, to a field of that record; through one to a local, to a field of the record in it
   pub through-record : {c y j c′ y′ : ℕ} {v : Value} {rest : List Value} → v ≡ toField c y j → ops ≡ toRecord c′ y′ ∷ rest → Makes t row id p ops (frame id p i ops ls ∷ fs) rs st v → c ≡ c′

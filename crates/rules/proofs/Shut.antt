@@ -11,14 +11,14 @@ use Rattle.table.specs.declared.index.Index.{Index}
 use Rattle.table.specs.Format.{instructionKind, opCall, opRet}
 use Rattle.table.specs.Rows.{rowAt, kindAt}
 use Rattle.table.specs.Index.{ownerAt}
-use Rattle.program.specs.Program.{number, numberRef, localKind}
-use Rattle.rules.specs.Limits.{budgetSpent}
+use Rattle.program.specs.Program.{number, numberRef, isReference, localKind, localCount}
+use Rattle.rules.specs.Limits.{budgetSpent, pastNumbers}
 use Rattle.reach.specs.Reach.{Mem}
-use Rattle.rules.specs.Machine.{Value, valueKind, num, obj, toLocal, toField, Cell, gone, here, Entry, Frame, frame, State, state, Outcome, finished, stopped, stuck}
-use Rattle.rules.specs.Step.{pushedOn, effectAt, step}
+use Rattle.rules.specs.Machine.{Value, valueKind, num, obj, toLocal, toField, toRecord, Cell, gone, here, Entry, Frame, frame, State, state, Outcome, finished, stopped, stuck}
+use Rattle.rules.specs.Step.{pushedOn, instruction, effectAt, step}
 use Rattle.rules.specs.History.{moment}
 use Rattle.rules.specs.Ownership.{inFrames, inRecords, inStore}
-use Rattle.rules.specs.Words.{procedureCount, moduleOf, declarer, guest, guardedField, kindsIn, bodyOf, instructionRow, Holds, local, Exists, NumberIn, IsEntry}
+use Rattle.rules.specs.Words.{procedureCount, moduleOf, declarer, inGuest, guest, guardedField, kindsIn, bodyOf, instructionRow, Holds, local, Exists, NumberIn, IsEntry}
 use Rattle.rules.specs.Claim.{Rising, Typed, Takes, Ready, SafeOutcome, goes, returnsLast, stops, Safe, safe}
 use Rattle.rules.proofs.Changes.{clash}
 use Rattle.rules.proofs.Owning.{held-once, in-cells, entry-counted, lives-once}
@@ -88,6 +88,13 @@ module _ (t : List ℕ) (ix : Index) (row id p i : ℕ) (ops : List Value) (ls :
   pub not-no-procedure : {o : Outcome} → procedureCount t ≤ p → SafeWith o → ⊥
   not-no-procedure l s = omega (arith, ready-of s .procedure, l)
 
+  -- another instruction is done than the row told; a guest's row is done for a procedure of a trusted module, or the other way round
+  pub not-another-instruction : {o : Outcome} → instruction t ix p i ≢ rowAt t row → SafeWith o → ⊥
+  not-another-instruction f s = f (ready-of s .found)
+
+  pub not-guests-row : {o : Outcome} → inGuest t row ≢ guest t p → SafeWith o → ⊥
+  not-guests-row f s = f (ready-of s .guests)
+
   -- CLAUSE 2, `Kept`, of any frame, running or suspended
   module _ {o : Outcome} {id′ p′ i′ : ℕ} {ops′ : List Value} {ls′ : List (Option Value)} (among : Mem (frame id′ p′ i′ ops′ ls′) (frame id p i ops ls ∷ fs)) where
     -- a frame of a guest holds a reference to a guarded field
@@ -122,6 +129,20 @@ module _ (t : List ℕ) (ix : Index) (row id p i : ℕ) (ops : List Value) (ls :
     pub not-other-type : {c y j y′ : ℕ} {vs : List Value} → Holds (frame id′ p′ i′ ops′ ls′) (toField c y j) → nth rs c ≡ some (here y′ vs) → y′ ≢ y → SafeWith o → ⊥
     not-other-type {c} {y} {j} h e f s = ⊎-elim (λ q. clash (cc (e, q))) (λ q. f (cc (e, q .1))) (label (typed-of s) (toField c y j) h .0)
 
+    -- a number of more than 64 bits
+    pub not-too-large : {x : ℕ} → Holds (frame id′ p′ i′ ops′ ls′) (num x) → pastNumbers ≤ x → SafeWith o → ⊥
+    not-too-large {x} h l s = omega (arith, label (typed-of s) (num x) h, l)
+
+    -- a reference to a record under another type; to a local that holds a reference; to a local of a frame that is yet to come
+    pub not-record-of-other : {c y y′ : ℕ} {vs : List Value} → Holds (frame id′ p′ i′ ops′ ls′) (toRecord c y) → nth rs c ≡ some (here y′ vs) → y′ ≢ y → SafeWith o → ⊥
+    not-record-of-other {c} {y} h e f s = ⊎-elim (λ q. clash (cc (e, q))) (λ q. f (cc (e, q .1))) (label (typed-of s) (toRecord c y) h)
+
+    pub not-to-reference : {f l k : ℕ} → Holds (frame id′ p′ i′ ops′ ls′) (toLocal f l k) → isReference k ≡ true → SafeWith o → ⊥
+    not-to-reference {f} {l} {k} h e s = let z = label (typed-of s) (toLocal f l k) h .1 in clash (cc (e, z))
+
+    pub not-to-come : {f l k : ℕ} → Holds (frame id′ p′ i′ ops′ ls′) (toLocal f l k) → n ≤ f → SafeWith o → ⊥
+    not-to-come {f} {l} {k} h e s = omega (arith, label (typed-of s) (toLocal f l k) h .0, e)
+
     -- a reference to a local has another kind than its procedure declares; so has the value in a local
     pub not-other-local : {f l k q i″ : ℕ} {ops″ : List Value} {ls″ : List (Option Value)} → Holds (frame id′ p′ i′ ops′ ls′) (toLocal f l k) → Mem (frame f q i″ ops″ ls″) (frame id p i ops ls ∷ fs) → localKind t (bodyOf t q) l ≢ k
         → SafeWith o → ⊥
@@ -129,6 +150,10 @@ module _ (t : List ℕ) (ix : Index) (row id p i : ℕ) (ops : List Value) (ls :
 
     pub not-misplaced : {v : Value} (l : ℕ) → nth ls′ l ≡ some (some v) → valueKind v ≢ localKind t (bodyOf t p′) l → SafeWith o → ⊥
     not-misplaced {v} l e f s = f (placed (typed-of s) l v e .1)
+
+    -- a value stands in a local that the procedure does not have
+    pub not-no-local : {v : Value} (l : ℕ) → nth ls′ l ≡ some (some v) → localCount (bodyOf t p′) ≤ l → SafeWith o → ⊥
+    not-no-local {v} l e f s = omega (arith, placed (typed-of s) l v e .0, f)
 
   -- RECORDS AND ENTRIES, `Sound`
   -- a record has no number in a number field; an entry's record does not exist, or is of another type than the key's

@@ -7,15 +7,16 @@ use mathlib.Core.Option.{Option, none, some}
 use native.Mathlib.Omega.{arith}
 use lib.ListN.{length, getElem? as nth}
 use Rattle.table.specs.declared.index.Index.{Index}
+use Rattle.table.specs.Format.{maxResults}
 use Rattle.program.specs.Program.{procedureIn, localCount}
 use Rattle.rules.specs.Limits.{budgetSpent}
 use Rattle.reach.specs.Reach.{Mem}
-use Rattle.rules.specs.Machine.{Value, num, Cell, here, Entry, Frame, frame, State, state, Outcome, next, finished, stopped}
+use Rattle.rules.specs.Machine.{Value, num, Cell, here, Entry, Frame, frame, State, state, Outcome, next, finished, stopped, stuck}
 use Rattle.rules.specs.Step.{step}
 use Rattle.rules.specs.Calls.{Call, call}
 use Rattle.rules.specs.History.{Base, base, Event, moment, ended}
 use Rattle.rules.specs.Words.{Exists, NumberIn, IsEntry}
-use Rattle.rules.specs.Claim.{All, IsNumber, Restored, finishes, restores, Reached, Later, Safe, ends}
+use Rattle.rules.specs.Claim.{All, IsNumber, Restored, SafeEnd, finishes, restores, Reached, Later, Safe, ends}
 use Rattle.rules.specs.Chain.{Chained}
 use Rattle.rules.proofs.Changes.{clash}
 use Rattle.rules.proofs.Handing.{all-out}
@@ -86,12 +87,24 @@ module _ (t : List ℕ) (ix : Index) (before : Base) (last : State) (row : ℕ) 
   numbers-only : {z : State} {after : Base} → Safe t ix (ended before last row (finished vs z) after) → All IsNumber vs
   numbers-only (ends (finishes a b) l) = a
 
-  -- it leaves other entries or records than its last step; it returns something else than a number
+  -- it leaves other entries or records than its last step
   pub not-left-else : {fs : List Frame} {rs rs′ : List Cell} {st st′ : List Entry} {n n′ : ℕ} → (st′ ≢ st) ⊎ (rs′ ≢ rs) → Safe t ix (ended before last row (finished vs (state fs rs st n)) (base rs′ st′ n′)) → ⊥
   not-left-else f s = let z = left-as s in ⊎-elim (λ u. u (cc (z .3, z .4))) (λ u. u (cc (z .3, z .4))) f
 
+  -- it returns something else than a number, or more than four
   pub not-no-number : {v : Value} {z : State} {after : Base} → Mem v vs → ¬ (IsNumber v) → Safe t ix (ended before last row (finished vs z) after) → ⊥
   not-no-number {v} m f s = f (all-out (numbers-only s) v m)
+
+  pub not-too-many : {z : State} {after : Base} → maxResults < length vs → Safe t ix (ended before last row (finished vs z) after) → ⊥
+  not-too-many l (ends (finishes a b) q) = omega (arith, b, l)
+
+  -- a call ends in no other way than done or stopped
+  over : {o : Outcome} {after : Base} → SafeEnd t ix before o after → (o ≡ stuck) ⊎ ((s : State) × (o ≡ next s)) → ⊥
+  over (finishes a b) e = ⊎-elim (λ q. clash (cc (q))) (λ q. clash (cc (q .1))) e
+  over (restores r) e = ⊎-elim (λ q. clash (cc (q))) (λ q. clash (cc (q .1))) e
+
+  pub not-ended-else : {o : Outcome} {after : Base} → (o ≡ stuck) ⊎ ((s : State) × (o ≡ next s)) → Safe t ix (ended before last row o after) → ⊥
+  not-ended-else e (ends d l) = over d e
 
 -- an argument by its place
 map-at : (args : List ℕ) (j : ℕ) {x : ℕ} → nth args j ≡ some x → nth (map num args) j ≡ some (num x)

@@ -17,7 +17,7 @@ use Rattle.rules.specs.Words.{moduleOf, declarer, guest, guardedField, H
 use Rattle.rules.specs.Claim.{IsReference, Writes, Proper, Makes, Takes, Handed, Origin, goes, Safe, safe}
 use Rattle.rules.proofs.Changes.{clash}
 use Rattle.rules.proofs.Sounds.{nth-set, head-of, nth-inside}
-use Rattle.rules.proofs.Consequences.{safe-state, identity, under-same, call-under, ret-under, write-under, called-as, to-field, borrows, called-with, returned-to, through-record, through-local, to-entry}
+use Rattle.rules.proofs.Consequences.{safe-state, identity, procedure, under-same, call-under, ret-under, write-under, called-as, runs-on, to-local, to-field, borrows, called-with, returned-to, through-record, through-local, to-entry}
 use Rattle.rules.proofs.Shut.{not-in-guest}
 
 -- A step is done: frame id of procedure p is at instruction i over the frames fs, `row` is told, and it leads to the state after
@@ -122,7 +122,18 @@ module _ (t : List ℕ) (ix : Index) (row id p i : ℕ) (ops : List Value) (ls :
     pub not-rekeyed : {a y′ a′ : ℕ} → IsEntry st y a c → ¬ (IsEntry st′ y a c) → IsEntry st′ y′ a′ c → ¬ (IsEntry st y′ a′ c) → Done → ⊥
     not-rekeyed {a} {y′} {a′} k l m o s = omega (arith, proper-of s .left y a c k l .opcode, proper-of s .entered y′ a′ c m o .opcode)
 
+  -- identities of records are given back
+  pub not-forgotten : length rs′ < length rs → Done → ⊥
+  not-forgotten l s = omega (arith, proper-of s .grows, l)
+
   -- FRAMES, `Handed`
+  -- the running frame changes its procedure or identity by a step that is no Call or Ret; a Call enters another procedure than it names
+  pub not-another-running : {f : Frame} {gs : List Frame} → fs′ ≡ f ∷ gs → rowAt t row .a ≢ opCall → rowAt t row .a ≢ opRet → (procedure f ≢ p) ⊎ (identity f ≢ id) → Done → ⊥
+  not-another-running e a b f s = let z = runs-on e a b (handed-of s) in ⊎-elim (λ u. u (z .0)) (λ u. u (z .1)) f
+
+  pub not-another-callee : {f : Frame} {gs : List Frame} → rowAt t row .a ≡ opCall → fs′ ≡ f ∷ gs → procedure f ≢ rowAt t row .b → Done → ⊥
+  not-another-callee e d f s = f (called-as e d (handed-of s) .2)
+
   -- records are swapped with those of a suspended frame: frames under the running one change by a step that is no WriteRef, Call or Ret
   pub not-reached-under : {g : Frame} {gs : List Frame} → fs′ ≡ g ∷ gs → rowAt t row .a ≢ opWriteRef → rowAt t row .a ≢ opCall → rowAt t row .a ≢ opRet → gs ≢ fs → Done → ⊥
   not-reached-under {g} {gs} e a b c f s = f (under-same g gs e a b c (handed-of s))
@@ -171,6 +182,10 @@ module _ (t : List ℕ) (ix : Index) (row id p i : ℕ) (ops : List Value) (ls :
     pub not-another-local : {c y k g l z c′ y′ : ℕ} {rest : List Value} → Holds (frame id p j ops′ ls′) (toField c y k) → ¬ (Holds (frame id p i ops ls) (toField c y k)) → ops ≡ toLocal g l z ∷ rest
         → localOf (frame id p i ops ls ∷ fs) g l ≡ some (obj c′ y′) → c ≢ c′ → Done → ⊥
     not-another-local h m e d f s = ⊎-elim (λ q. m q) (λ q. f (through-local refl e d q)) (came tt h s)
+
+    -- BorrowLoc gives a reference to a local of another frame
+    pub not-another-frame : {f l k : ℕ} → Holds (frame id p j ops′ ls′) (toLocal f l k) → ¬ (Holds (frame id p i ops ls) (toLocal f l k)) → f ≢ id → Done → ⊥
+    not-another-frame h m f s = ⊎-elim (λ q. m q) (λ q. f (to-local refl q)) (came tt h s)
 
     -- BorrowGlobal gives a reference to another record than the one under the key
     pub not-another-entry : {c y a : ℕ} {rest : List Value} → Holds (frame id p j ops′ ls′) (toRecord c y) → ¬ (Holds (frame id p i ops ls) (toRecord c y)) → rowAt t row .a ≡ opBorrowGlobal → ops ≡ num a ∷ rest → ¬ (IsEntry st y a c)
