@@ -11,8 +11,9 @@ use Rattle.rules.specs.Machine.{Value, num, toField, here, entry, frame, state,
 use Rattle.rules.specs.History.{Event, moment}
 use Rattle.rules.specs.Run.{historyOf}
 use Rattle.rules.specs.Words.{operand}
-use Rattle.rules.specs.Claim.{All, also, Safe, safe}
+use Rattle.rules.specs.Claim.{All, Safe, safe}
 use Rattle.rules.proofs.Handing.{all-nth}
+use Rattle.rules.proofs.Demand3.{all-head}
 use Rattle.examples.specs.Tables.{table, rowsHandedOut, callsHandedOut}
 use Rattle.examples.specs.Weaker.{BreaksWithoutLeaks}
 use Rattle.examples.proofs.Rules.{rules}
@@ -29,10 +30,7 @@ happens = refl
 
 not-safe : Safe (table rowsHandedOut) (indexOf (table rowsHandedOut)) holding → ⊥
 unfolding rules
-not-safe (safe s o) = go (s .kept)
-  where
-    go : All _ _ → ⊥
-    go (also k a) = true≢false (k (toField 0 0 0) (operand (first refl)) (0, 0, 0, refl, refl) .0)
+not-safe (safe s o) = true≢false (all-head (s .kept) (toField 0 0 0) (operand (first refl)) (0, 0, 0, refl, refl) .0)
 
 pub breaks : BreaksWithoutLeaks (table rowsHandedOut) (table callsHandedOut)
 unfolding rules

@@ -44,7 +44,7 @@ use Rattle.rules.proofs.Callable.{good-calls}
 use Rattle.rules.proofs.Invariant.{used, usedAt, BaseOk, MomentOk, EndOk, EventOk, HandedAt, handed-at, outcome-ok, restored-ok, restored-length, buried-dead, chain-ok, nothing-ok}
 use Rattle.rules.proofs.Every.{chained}
 
-all-head : {B : Type 0} {Q : B → Type 0} {x : B} {l : List B} → All Q (x ∷ l) → Q x
+pub all-head : {B : Type 0} {Q : B → Type 0} {x : B} {l : List B} → All Q (x ∷ l) → Q x
 all-head (also q a) = q
 
 pub all-map : {B : Type 0} {P Q : B → Type 0} → ((x : B) → P x → Q x) → {l : List B} → All P l → All Q l

@@ -83,9 +83,6 @@ all-append : {B : Type 0} {Q : B → Type 0} {l r : List B} → All Q l → All 
 all-append none-left b = b
 all-append (also k a) b = also k (all-append a b)
 
-all-head : {B : Type 0} {Q : B → Type 0} {x : B} {l : List B} → All Q (x ∷ l) → Q x
-all-head (also q a) = q
-
 restored-rest : (t : List ℕ) (h h′ : List Cell) (st : List Entry) → Rest t h st → Rest t (restored h h′) st
 restored-rest t h h′ st v =
     let l = drop (length h) h′ in
