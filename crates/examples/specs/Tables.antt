@@ -341,8 +341,8 @@ rowsFull =
 unfoldable pub rowsHandedOut : List (List ℕ)
 rowsHandedOut =
     rowsS
-    ++ (public ∷ parameter 0 0 ∷ result 2 0 ∷ mvLoc 0 ∷ borrowGlobal 0 ∷ borrowFld 0 0 ∷ ret
-    ∷ guest ∷ public ∷ parameter 0 0 ∷ local 2 0 ∷ mvLoc 0 ∷ callProcedure 1 ∷ stLoc 1 ∷ loadConst 1 ∷ mvLoc 1 ∷ writeRef ∷ ret ∷ [])
+    ++ (public ∷ parameter 0 0 ∷ result 2 0 ∷ mvLoc 0 ∷ borrowGlobal 0 ∷ borrowFld 0 0 ∷ ret ∷ guest
+    ∷ public ∷ parameter 0 0 ∷ local 2 0 ∷ mvLoc 0 ∷ callProcedure 1 ∷ stLoc 1 ∷ loadConst 1 ∷ mvLoc 1 ∷ writeRef ∷ ret ∷ [])
 
 -- the credit is published, and the guest is called
 unfoldable pub callsHandedOut : List (List ℕ)
