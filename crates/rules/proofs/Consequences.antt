@@ -1,5 +1,5 @@
 -- What follows from the claim: of operands taken, frames, numbers, references, and what stands between the moments of a list of calls.
-use Prim.Native.Nat.{ℕ, zero, suc, _+_, _-_, _<_, _≤_}
+use Prim.Native.Nat.{ℕ, zero, suc, _+_, _-_, _%_, _<_, _≤_}
 use mathlib.Core.Path.{_≡_, refl, ap, sym, subst, _∙_}
 use mathlib.Core.Bool.{Bool, true, false, cond, _&&_}
 use mathlib.Core.List.{List, [], _∷_, _++_, map, List·Memᴰ·head, List·Memᴰ·tail, List·Memᴰ·cases-cons, List·Memᴰ·not-nil}
@@ -81,12 +81,12 @@ placed (typed a b) = b
 
 -- a frame stands at the Call of the one above it, and has a higher identity than those under it
 pub stands : {t : List ℕ} {q id i : ℕ} {ops : List Value} {ls : List (Option Value)} {gs : List Frame} (above : List Frame) (f g : Frame) (rest : List Frame) → Linked t q gs → frame id q i ops ls ∷ gs ≡ above ++ (f ∷ g ∷ rest)
-    → (procedure g < procedureCount t) × (rowAt t (rowOf t g) .a ≡ opCall) × (rowAt t (rowOf t g) .b ≡ procedure f)
+    → (procedure g < procedureCount t) × (rowAt t (rowOf t g) .a ≡ opCall) × (rowAt t (rowOf t g) .b ≡ procedure f) × (rowOf t g < bodyOf t (procedure g) .end)
 stands [] f g rest first e = absurd (clash (cc))
 stands (x ∷ []) f g rest first e = absurd (clash (cc))
 stands (x ∷ y ∷ above) f g rest first e = absurd (clash (cc))
 stands {q} {id} {i} {ops} {ls} [] f g rest (at-call {id = id′} {p} {i = i′} {ops = ops′} {ls = ls′} a b c d l) e =
-    let z : frame id q i ops ls ≡ f = cc in let w : frame id′ p i′ ops′ ls′ ≡ g = cc in rw (← w, ← z) (a, c, d)
+    let z : frame id q i ops ls ≡ f = cc in let w : frame id′ p i′ ops′ ls′ ≡ g = cc in rw (← w, ← z) (a, c, d, b)
 stands (x ∷ above) f g rest (at-call a b c d l) e = stands above f g rest l (tail-same e)
 
 pub rises : (n : ℕ) (f : Frame) (gs : List Frame) → Rising n gs → Mem f gs → identity f < n
@@ -222,12 +222,20 @@ module _ {t : List ℕ} {ix : Index} {row id p i n : ℕ} {ops : List Value} {ls
       rw (← k) (start-at us (localCount (bodyOf t (rowAt t row .b)) - length us) j v (rw (← z) at q))
   called-with e d w (returns a b c) j v q = absurd (omega arith)
 
+  pub left-with : {fs″ : List Frame} {m id′ p′ i′ : ℕ} {f : Frame} {ops′ vs rest : List Value} {ls′ : List (Option Value)} {gs : List Frame} → rowAt t row .a ≡ opCall → fs″ ≡ f ∷ frame id′ p′ i′ ops′ ls′ ∷ gs
+      → Takes t ix p i ops vs rest → Handed t ix row id p i ops ls fs n fs″ m → ops′ ≡ rest
+  left-with e d w (goesOn a b) = absurd (a e)
+  left-with e d w (writes a b) = absurd (omega arith)
+  left-with e d w (calls a b) = cc (d, b, w)
+  left-with e d w (returns a b c) = absurd (omega arith)
+
   pub returned-to : {fs″ : List Frame} {m id′ p′ i′ id″ p″ i″ : ℕ} {ops′ ops″ vs rest : List Value} {ls′ ls″ : List (Option Value)} {gs hs : List Frame} → rowAt t row .a ≡ opRet → fs ≡ frame id′ p′ i′ ops′ ls′ ∷ gs
-      → fs″ ≡ frame id″ p″ i″ ops″ ls″ ∷ hs → Takes t ix p i ops vs rest → Handed t ix row id p i ops ls fs n fs″ m → ops″ ≡ pushedOn vs ops′
+      → fs″ ≡ frame id″ p″ i″ ops″ ls″ ∷ hs → Takes t ix p i ops vs rest → Handed t ix row id p i ops ls fs n fs″ m → (ops″ ≡ pushedOn vs ops′) × (i″ ≡ i′ + 1)
   returned-to e g d w (goesOn a b) = absurd (b e)
   returned-to e g d w (writes a b) = absurd (omega arith)
   returned-to e g d w (calls a b) = absurd (omega arith)
-  returned-to {ops′} {vs} e g d w (returns {vs = us} {ops′ = os} a b c) = let z : us ≡ vs = cc (b, w) in let k : os ≡ ops′ = cc (c, g) in rw (← z, ← k) (cc (d))
+  returned-to {i′} {i″} {ops′} {vs} e g d w (returns {vs = us} {i′ = j} {ops′ = os} a b c) =
+      let z : us ≡ vs = cc (b, w) in let k : os ≡ ops′ = cc (c, g) in let u : j ≡ i′ = cc (c, g) in let q : j + 1 ≡ i″ = cc (d) in (rw (← z, ← k) (cc (d)), sym q ∙ ap (λ (x : ℕ). x + 1) u)
 
 -- where a search in records and store leads
 leads-to : (id : ℕ) (o : Option Cell) {d : ℕ} {fields : List Value} → inCell id o ≡ aRecord d fields → d ≡ id
@@ -276,6 +284,14 @@ module _ {t : List ℕ} {row id p i : ℕ} {ops : List Value} {ls : List (Option
       cc (e, u)
   through-local e s z (nested-made a b w u) = absurd (clash (cc))
   through-local e s z (entry-made a b w) = absurd (clash (cc))
+
+  -- to the record that stands in the field
+  pub to-nested : {c y c′ y′ d : ℕ} {v r : Value} {rest fields : List Value} → v ≡ toRecord c y → rowAt t row .a ≡ opBorrowFld → ops ≡ r ∷ rest → target (frame id p i ops ls ∷ fs) rs r ≡ aRecord d fields
+      → nth fields (rowAt t row .b % 8) ≡ some (obj c′ y′) → Makes t row id p ops (frame id p i ops ls ∷ fs) rs st v → c ≡ c′
+  to-nested e g s z k (local-made b) = absurd (clash (cc))
+  to-nested e g s z k (field-made b w u) = absurd (clash (cc))
+  to-nested {r} {fields} e g s z k (nested-made {r = q} {fields = ws} b w u h) = let x : q ≡ r = cc (w, s) in let y : ws ≡ fields = cc (rw x at u, z) in cc (e, h, k, y)
+  to-nested e g s z k (entry-made b w u) = absurd (omega (arith, b, g))
 
   -- BorrowGlobal's is to the record under the key
   pub to-entry : {c y a : ℕ} {v : Value} {rest : List Value} → v ≡ toRecord c y → rowAt t row .a ≡ opBorrowGlobal → ops ≡ num a ∷ rest → Makes t row id p ops (frame id p i ops ls ∷ fs) rs st v → IsEntry st y a c

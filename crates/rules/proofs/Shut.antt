@@ -197,6 +197,10 @@ module _ (t : List ℕ) (ix : Index) (row id p i : ℕ) (ops : List Value) (ls :
     pub not-of-none : procedureCount t ≤ procedure g → SafeWith o → ⊥
     not-of-none l s = omega (arith, stands above f g rest (safe-state s .linked) waits .0, l)
 
+    -- its place is behind its procedure's last row
+    pub not-behind : bodyOf t (procedure g) .end ≤ rowOf t g → SafeWith o → ⊥
+    not-behind l s = omega (arith, stands above f g rest (safe-state s .linked) waits .3, l)
+
   -- two frames have one identity
   pub not-one-identity : {o : Outcome} (above : List Frame) (f g : Frame) (rest : List Frame) → frame id p i ops ls ∷ fs ≡ above ++ (f ∷ rest) → Mem g rest → identity g ≡ identity f → SafeWith o → ⊥
   not-one-identity above f g rest e m d s = omega (arith, rises (identity f) g rest (risen above f rest n (subst (λ (l : List Frame). Rising n l) e (safe-state s .rising))) m, d)

@@ -75,6 +75,10 @@ module _ (t : List ℕ) (ix : Index) (before : Base) (fs : List Frame) (rs : Lis
   pub not-records-again : length rs′ < length rs → Ended → ⊥
   not-records-again l s = omega (arith, later-of s .0, l)
 
+  -- an entry is left whose record does not exist
+  pub not-left-of-none : {y a c : ℕ} → IsEntry st′ y a c → ¬ (Exists rs′ c y) → Ended → ⊥
+  not-left-of-none {y} {a} {c} e f s = f (later-of s .2 .sound .entered y a c e)
+
   -- a record lives on that is in no entry and in no record under one
   pub not-adrift : {c y : ℕ} → Exists rs′ c y → ¬ (Reached rs′ st′ c) → Ended → ⊥
   not-adrift {c} {y} e f s = f (later-of s .2 .reached c y e)

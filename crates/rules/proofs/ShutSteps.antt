@@ -1,5 +1,5 @@
 -- Wrong steps are not safe: for each clause of the claim about what a step does, the wrong machines that it shuts out.
-use Prim.Native.Nat.{ℕ, _+_, _<_}
+use Prim.Native.Nat.{ℕ, _+_, _%_, _<_, _≤_}
 use mathlib.Core.Path.{_≡_, refl, _∙_}
 use mathlib.Core.Bool.{true}
 use mathlib.Core.List.{List, [], _∷_, List·Memᴰ·head}
@@ -13,11 +13,11 @@ use Rattle.table.specs.Rows.{rowAt}
 use Rattle.reach.specs.Reach.{Mem}
 use Rattle.rules.specs.Machine.{Value, num, obj, toLocal, toField, toRecord, localOf, Cell, gone, here, Entry, Frame, frame, state, next, aRecord, target}
 use Rattle.rules.specs.History.{moment}
-use Rattle.rules.specs.Words.{moduleOf, declarer, guest, guardedField, Holds, operand, Exists, NumberIn, IsEntry, InStore}
+use Rattle.rules.specs.Words.{typeCount, moduleOf, declarer, guest, guardedField, Holds, operand, Exists, NumberIn, IsEntry, InStore}
 use Rattle.rules.specs.Claim.{IsReference, Writes, Proper, Makes, Takes, Handed, Origin, goes, Safe, safe}
 use Rattle.rules.proofs.Changes.{clash}
 use Rattle.rules.proofs.Sounds.{nth-set, head-of, nth-inside}
-use Rattle.rules.proofs.Consequences.{safe-state, identity, procedure, under-same, call-under, ret-under, write-under, called-as, runs-on, to-local, to-field, borrows, called-with, returned-to, through-record, through-local, to-entry}
+use Rattle.rules.proofs.Consequences.{safe-state, identity, procedure, under-same, call-under, ret-under, write-under, called-as, runs-on, to-local, to-field, borrows, called-with, left-with, returned-to, to-nested, through-record, through-local, to-entry}
 use Rattle.rules.proofs.Shut.{not-in-guest}
 
 -- A step is done: frame id of procedure p is at instruction i over the frames fs, `row` is told, and it leads to the state after
@@ -81,6 +81,10 @@ module _ (t : List ℕ) (ix : Index) (row id p i : ℕ) (ops : List Value) (ls :
 
     pub not-made-other : Exists rs′ c y → ¬ (Exists rs c y) → rowAt t row .b ≢ y → Done → ⊥
     not-made-other a b f s = f (proper-of s .made c y a b .operand)
+
+    -- it is made of a type that does not exist
+    pub not-made-of-none : Exists rs′ c y → ¬ (Exists rs c y) → typeCount t ≤ y → Done → ⊥
+    not-made-of-none a b l s = omega (arith, proper-of s .made c y a b .there, l)
 
     -- it is made in another module than the one that declares the type, a guest for instance
     pub not-made-outside : Exists rs′ c y → ¬ (Exists rs c y) → declarer t y ≢ moduleOf t p → Done → ⊥
@@ -163,7 +167,16 @@ module _ (t : List ℕ) (ix : Index) (row id p i : ℕ) (ops : List Value) (ls :
 
   pub not-another-result : {id′ p′ i′ id″ p″ i″ : ℕ} {ops′ ops″ rest : List Value} {ls′ ls″ : List (Option Value)} {gs hs : List Frame} {v : Value} → rowAt t row .a ≡ opRet → fs ≡ frame id′ p′ i′ ops′ ls′ ∷ gs
       → fs′ ≡ frame id″ p″ i″ ops″ ls″ ∷ hs → Takes t ix p i ops (v ∷ []) rest → ops″ ≢ v ∷ ops′ → Done → ⊥
-  not-another-result e g d w f s = f (returned-to e g d w (handed-of s))
+  not-another-result e g d w f s = f (returned-to e g d w (handed-of s) .0)
+
+  -- the caller keeps what the Call takes, or goes on elsewhere than after its Call
+  pub not-kept-by-caller : {f : Frame} {id′ p′ i′ : ℕ} {ops′ vs rest : List Value} {ls′ : List (Option Value)} {gs : List Frame} → rowAt t row .a ≡ opCall → fs′ ≡ f ∷ frame id′ p′ i′ ops′ ls′ ∷ gs → Takes t ix p i ops vs rest
+      → ops′ ≢ rest → Done → ⊥
+  not-kept-by-caller e d w f s = f (left-with e d w (handed-of s))
+
+  pub not-returned-elsewhere : {id′ p′ i′ id″ p″ i″ : ℕ} {ops′ ops″ vs rest : List Value} {ls′ ls″ : List (Option Value)} {gs hs : List Frame} → rowAt t row .a ≡ opRet → fs ≡ frame id′ p′ i′ ops′ ls′ ∷ gs
+      → fs′ ≡ frame id″ p″ i″ ops″ ls″ ∷ hs → Takes t ix p i ops vs rest → i″ ≢ i′ + 1 → Done → ⊥
+  not-returned-elsewhere e g d w f s = f (returned-to e g d w (handed-of s) .1)
 
   -- REFERENCES, `Origin`
   module _ {j : ℕ} {ops′ : List Value} {ls′ : List (Option Value)} {gs : List Frame} (top : fs′ ≡ frame id p j ops′ ls′ ∷ gs) where
@@ -182,6 +195,11 @@ module _ (t : List ℕ) (ix : Index) (row id p i : ℕ) (ops : List Value) (ls :
     pub not-another-local : {c y k g l z c′ y′ : ℕ} {rest : List Value} → Holds (frame id p j ops′ ls′) (toField c y k) → ¬ (Holds (frame id p i ops ls) (toField c y k)) → ops ≡ toLocal g l z ∷ rest
         → localOf (frame id p i ops ls ∷ fs) g l ≡ some (obj c′ y′) → c ≢ c′ → Done → ⊥
     not-another-local h m e d f s = ⊎-elim (λ q. m q) (λ q. f (through-local refl e d q)) (came tt h s)
+
+    -- BorrowFld gives a reference to another record than the one that stands in the field
+    pub not-another-nested : {c y c′ y′ d : ℕ} {r : Value} {rest fields : List Value} → Holds (frame id p j ops′ ls′) (toRecord c y) → ¬ (Holds (frame id p i ops ls) (toRecord c y)) → rowAt t row .a ≡ opBorrowFld → ops ≡ r ∷ rest
+        → target (frame id p i ops ls ∷ fs) rs r ≡ aRecord d fields → nth fields (rowAt t row .b % 8) ≡ some (obj c′ y′) → c ≢ c′ → Done → ⊥
+    not-another-nested h m g e z k f s = ⊎-elim (λ q. m q) (λ q. f (to-nested refl g e z k q)) (came tt h s)
 
     -- BorrowLoc gives a reference to a local of another frame
     pub not-another-frame : {f l k : ℕ} → Holds (frame id p j ops′ ls′) (toLocal f l k) → ¬ (Holds (frame id p i ops ls) (toLocal f l k)) → f ≢ id → Done → ⊥
