@@ -290,7 +290,7 @@ module _ {t : List ℕ} {T W : List ℕ} {id p i : ℕ} {ops vs under : List Val
           store = entries-more T (T ++ (b ∷ [])) more (R .store);
           owned = λ r. omega (arith, R .owned r, heap-snoc r h (here b vs), alive-snoc r h b vs);
         },
-        packed vs (ltb-true (liveCount h) 128 lt) e (owns 9 e (omega arith) (omega arith)) refl refl,
+        packed vs (ltb-true (liveCount h) 128 lt) e (owns 9 e (omega arith) (omega arith)) refl refl (under, R .shape),
       ))
 
   -- a record that is held lives
@@ -316,7 +316,7 @@ module _ {t : List ℕ} {T W : List ℕ} {id p i : ℕ} {ops vs under : List Val
           store = R .store;
           owned = λ r. omega (arith, R .owned r, ap (inValues r) shape, held-rev r (d .0) under, heap-set r h (o .0) (gone b) (here b (d .0)) (d .1), alive-set r h (o .0) b (d .0) (d .1));
         },
-        unpacked (o .0) (d .0) e (owns 10 e (omega arith) (omega arith)) (d .1) refl refl,
+        unpacked (o .0) (d .0) e (owns 10 e (omega arith) (omega arith)) (d .1) refl refl (under, R .shape ∙ ap (λ (l : List Value). pushedOn l under) shape),
       )
 
   -- what is under a key, or not
@@ -336,7 +336,7 @@ module _ {t : List ℕ} {T W : List ℕ} {id p i : ℕ} {ops vs under : List Val
       (λ free. within (Did R) (ltb (length st) 64) 38 _
       (λ lt. (
         then R (i + 1) (fall 11 e (λ z. omega arith) (λ z. omega arith)) (no-value 11 e refl) (kept 11 e refl refl) (also (o .2, a .2) (R .store)) (λ r. omega (arith, R .owned r, ap (inValues r) shape)),
-        published (a .0) (o .0) free (ltb-true (length st) 64 lt) e (owns 11 e (omega arith) (omega arith)) refl refl,
+        published (a .0) (o .0) free (ltb-true (length st) 64 lt) e (owns 11 e (omega arith) (omega arith)) refl refl (under, R .shape ∙ ap (λ (l : List Value). pushedOn l under) shape),
       )))
       (λ j z. tt))
 
@@ -353,7 +353,7 @@ module _ {t : List ℕ} {T W : List ℕ} {id p i : ℕ} {ops vs under : List Val
       (λ j z. (
         then R (i + 1) (fall 12 e (λ z. omega arith) (λ z. omega arith)) (a-value 12 e refl (λ m. fobj (find-key T st (R .store) b (a .0) j z) refl)) (kept 12 e refl refl) (drop-key T st (R .store) b (a .0))
             (λ r. omega (arith, R .owned r, ap (inValues r) (a .1), find-drop r st b (a .0) j z)),
-        withdrew (a .0) e (owns 12 e (omega arith) (omega arith)) refl refl,
+        withdrew (a .0) e (owns 12 e (omega arith) (omega arith)) refl refl (under, R .shape ∙ ap (λ (l : List Value). pushedOn l under) (a .1)),
       )))
 
   pub ok-global : Case 13

@@ -9,7 +9,8 @@ use lib.ListN.{length, set, length-set, length-append, getElem? as nth}
 use lib.Dec.{eqb}
 use borrow.Author.Tests.{eqb-true}
 use Rattle.table.specs.Format.{opWriteRef, opPack, opUnpack, opMoveTo, opMoveFrom}
-use Rattle.rules.specs.Machine.{Value, num, toField, Cell, gone, here, Entry, entry, lives, liveCount, findKey, dropKey}
+use Rattle.rules.specs.Step.{pushedOn}
+use Rattle.rules.specs.Machine.{Value, num, obj, toField, Cell, gone, here, Entry, entry, lives, liveCount, findKey, dropKey}
 
 -- different constructors differ
 pub clash : _≡_ {A = ℕ} 0 1 → ⊥
@@ -20,10 +21,10 @@ pub data Change (decl : ℕ → ℕ) (m op b : ℕ) (ops : List Value) (h : List
   same : (op ≡ opWriteRef → (a t j x : ℕ) (under : List Value) → ops ≡ toField a t j ∷ num x ∷ under → ⊥) → h′ ≡ h → st′ ≡ st → Change decl m op b ops h st h′ st′
   wrote : (a t j x : ℕ) (vs under : List Value) → op ≡ opWriteRef → ops ≡ toField a t j ∷ num x ∷ under → nth h a ≡ some (here t vs) → h′ ≡ set h a (here t (set vs j (num x))) → st′ ≡ st
       → Change decl m op b ops h st h′ st′
-  packed : (vs : List Value) → liveCount h < 128 → op ≡ opPack → decl b ≡ m → h′ ≡ h ++ (here b vs ∷ []) → st′ ≡ st → Change decl m op b ops h st h′ st′
-  unpacked : (a : ℕ) (vs : List Value) → op ≡ opUnpack → decl b ≡ m → nth h a ≡ some (here b vs) → h′ ≡ set h a (gone b) → st′ ≡ st → Change decl m op b ops h st h′ st′
-  published : (a r : ℕ) → findKey st b a ≡ none → length st < 64 → op ≡ opMoveTo → decl b ≡ m → h′ ≡ h → st′ ≡ entry b a r ∷ st → Change decl m op b ops h st h′ st′
-  withdrew : (a : ℕ) → op ≡ opMoveFrom → decl b ≡ m → h′ ≡ h → st′ ≡ dropKey st b a → Change decl m op b ops h st h′ st′
+  packed : (vs : List Value) → liveCount h < 128 → op ≡ opPack → decl b ≡ m → h′ ≡ h ++ (here b vs ∷ []) → st′ ≡ st → (under : List Value) × (ops ≡ pushedOn vs under) → Change decl m op b ops h st h′ st′
+  unpacked : (a : ℕ) (vs : List Value) → op ≡ opUnpack → decl b ≡ m → nth h a ≡ some (here b vs) → h′ ≡ set h a (gone b) → st′ ≡ st → (under : List Value) × (ops ≡ obj a b ∷ under) → Change decl m op b ops h st h′ st′
+  published : (a r : ℕ) → findKey st b a ≡ none → length st < 64 → op ≡ opMoveTo → decl b ≡ m → h′ ≡ h → st′ ≡ entry b a r ∷ st → (under : List Value) × (ops ≡ num a ∷ obj r b ∷ under) → Change decl m op b ops h st h′ st′
+  withdrew : (a : ℕ) → op ≡ opMoveFrom → decl b ≡ m → h′ ≡ h → st′ ≡ dropKey st b a → (under : List Value) × (ops ≡ num a ∷ under) → Change decl m op b ops h st h′ st′
 
 abbrev pub keyCount : ℕ → ℕ → List Entry → ℕ
 keyCount t a [] = 0
@@ -77,16 +78,16 @@ module _ {decl : ℕ → ℕ} {m op b : ℕ} {ops : List Value} {h h′ : List C
   pub limits : Change decl m op b ops h st h′ st′ → Limited h st → Limited h′ st′
   limits (same c e d) k = rw (e, d) k
   limits (wrote a t j x vs under q r l e d) k = rw (e, d) (record { few = omega (arith, k .few, live-put h a (here t (set vs j (num x))) (here t vs) l); entries = k .entries; keys = k .keys })
-  limits (packed vs lt q m e d) k = rw (e, d) (record { few = omega (arith, live-snoc h (here b vs)); entries = k .entries; keys = k .keys })
-  limits (unpacked a vs q m l e d) k = rw (e, d) (record { few = omega (arith, k .few, live-put h a (gone b) (here b vs) l); entries = k .entries; keys = k .keys })
-  limits (published a r fk lt q m e d) k = rw (e, d) (record { few = k .few; entries = omega arith; keys = λ t′ a′. enter-go (eqb b t′) (eqb a a′) t′ a′ b a st refl refl fk (k .keys t′ a′) })
-  limits (withdrew a q m e d) k = rw (e, d) (record { few = k .few; entries = omega (arith, k .entries, drop-len st b a); keys = λ t′ a′. omega (arith, k .keys t′ a′, drop-keys t′ a′ st b a) })
+  limits (packed vs lt q m e d w) k = rw (e, d) (record { few = omega (arith, live-snoc h (here b vs)); entries = k .entries; keys = k .keys })
+  limits (unpacked a vs q m l e d w) k = rw (e, d) (record { few = omega (arith, k .few, live-put h a (gone b) (here b vs) l); entries = k .entries; keys = k .keys })
+  limits (published a r fk lt q m e d w) k = rw (e, d) (record { few = k .few; entries = omega arith; keys = λ t′ a′. enter-go (eqb b t′) (eqb a a′) t′ a′ b a st refl refl fk (k .keys t′ a′) })
+  limits (withdrew a q m e d w) k = rw (e, d) (record { few = k .few; entries = omega (arith, k .entries, drop-len st b a); keys = λ t′ a′. omega (arith, k .keys t′ a′, drop-keys t′ a′ st b a) })
 
   -- identities are never used again
   pub grows : Change decl m op b ops h st h′ st′ → length h ≤ length h′
   grows (same c e d) = rw e (omega arith)
   grows (wrote a t j x vs under q r l e d) = rw e (simp length-set (omega arith))
-  grows (packed vs lt q m e d) = rw e (simp length-append (omega arith))
-  grows (unpacked a vs q m l e d) = rw e (simp length-set (omega arith))
-  grows (published a r fk lt q m e d) = rw e (omega arith)
-  grows (withdrew a q m e d) = rw e (omega arith)
+  grows (packed vs lt q m e d w) = rw e (simp length-append (omega arith))
+  grows (unpacked a vs q m l e d w) = rw e (simp length-set (omega arith))
+  grows (published a r fk lt q m e d w) = rw e (omega arith)
+  grows (withdrew a q m e d w) = rw e (omega arith)

@@ -27,21 +27,21 @@ use Rattle.rules.specs.Words.{typeCount, moduleOf, declarer, guardedFiel
 use Rattle.rules.specs.Callable.{GoodCall}
 use Rattle.rules.specs.Claim.{All, none-left, also, IsNumber, Owned, Sound, Ready, Kept, Proper, By, SafeState, SafeOutcome, goes as goes-on, returnsLast, stops as stops-there, Restored, SafeEnd, finishes, restores, Between, Later, Safe, safe, ends as ends-there}
 use Rattle.rules.specs.Chain.{Chained, Claimed}
-use Rattle.rules.proofs.Changes.{clash, grows}
+use Rattle.rules.proofs.Changes.{clash, grows, Limited}
 use Rattle.rules.proofs.Indexed.{moduleIn, declarerIn}
-use Rattle.rules.proofs.Sounds.{changed-ok, written-ok, fields-ok, made-ok, fresh-ok, broken-ok, entered-ok, left-ok, nth-app, head-of}
+use Rattle.rules.proofs.Sounds.{changed-ok, written-ok, fields-ok, made-ok, fresh-ok, broken-ok, entered-ok, left-ok, packs-ok, unpacks-ok, keyed-ok, unkeyed-ok, key-once, nth-app, head-of}
 use Rattle.rules.proofs.Typing.{CellOk, EntryOk}
 use Rattle.rules.proofs.Frames.{FrameOk, Suspended, Stack, runs, typeOf, Inv}
 use Rattle.rules.proofs.Running.{Rest, OutcomeOk}
 use Rattle.rules.proofs.Steps.{StateOk, DidAt, step-ok, runs-on, takes-there}
 use Rattle.rules.proofs.Guests.{stack-kept}
 use Rattle.rules.proofs.Owning.{nested, plain, reached, shaped, entries-typed}
-use Rattle.rules.proofs.Worded.{types-are, procedures-are, type-is, declarer-is, module-is}
+use Rattle.rules.proofs.Worded.{types-are, procedures-are, type-is, procedure-is, declarer-is, module-is}
 use Rattle.rules.proofs.Placed.{place-is, end-is, row-is, kind-is, owner-is, guests-are}
 use Rattle.rules.proofs.Labels.{types-hold, links}
 use Rattle.rules.proofs.Outcomes.{OutQ, goes, ends}
 use Rattle.rules.proofs.Callable.{good-calls}
-use Rattle.rules.proofs.Invariant.{used, usedAt, BaseOk, MomentOk, EndOk, EventOk, HandedAt, handed-at, outcome-ok, restored-ok, restored-length, buried-dead, chain-ok, nothing-ok}
+use Rattle.rules.proofs.Invariant.{used, usedAt, Within, BaseOk, MomentOk, EndOk, EventOk, HandedAt, handed-at, outcome-ok, restored-ok, restored-length, buried-dead, chain-ok, nothing-ok}
 use Rattle.rules.proofs.Every.{chained}
 
 pub all-head : {B : Type 0} {Q : B → Type 0} {x : B} {l : List B} → All Q (x ∷ l) → Q x
@@ -53,17 +53,18 @@ all-map f (also {x} p a) = also (f x p) (all-map f a)
 
 module _ (t : List ℕ) (J : Judged t (indexOf t)) where
   -- records and entries
-  sound : (T : List ℕ) (h : List Cell) → map typeOf h ≡ T → All (CellOk t (indexOf t) T) h → (fs : List Frame) (st : List Entry) → All (EntryOk T) st → Owned fs h st → Sound t fs h st
-  sound T h types records fs st store owned = record {
+  sound : (T : List ℕ) (h : List Cell) → map typeOf h ≡ T → All (CellOk t (indexOf t) T) h → (fs : List Frame) (st : List Entry) → All (EntryOk T) st → Owned fs h st → Limited h st → Sound t fs h st
+  sound T h types records fs st store owned few = record {
     owned = owned;
     nested = nested t J T h types records fs st owned;
     plain = plain t J T h types records;
     shaped = λ id y vs e. let z = shaped t J T h types records id y vs e in (rw (types-are t (J .accepted)) at (z .0), rw (type-is t (J .accepted) y (z .0)) at (z .1));
     entered = entries-typed t J T h types records fs st store owned;
+    keys = λ y a id id′. key-once y a id id′ st (few .keys y a);
   }
 
-  between : (h : List Cell) (st : List Entry) → Rest t h st → Between t (indexOf t) h st
-  between h st v = record { sound = sound (v .T) h (v .types) (v .records) [] st (v .store) (v .owned); reached = reached t J (v .T) h (v .types) (v .records) st (v .owned) }
+  between : (h : List Cell) (st : List Entry) → Rest t h st → Limited h st → Between t (indexOf t) h st
+  between h st v few = record { sound = sound (v .T) h (v .types) (v .records) [] st (v .store) (v .owned) few; reached = reached t J (v .T) h (v .types) (v .records) st (v .owned) }
 
   -- a running frame
   module _ {T W : List ℕ} {id p i : ℕ} {ops : List Value} {ls : List (Option Value)} (f : FrameOk t (indexOf t) T W i [] id p ops ls) where
@@ -89,6 +90,7 @@ module _ (t : List ℕ) (J : Judged t (indexOf t)) where
           inside = end-is t (J .accepted) p (f .there) few i (f .inside);
           kind = kind-is t (J .accepted) p (f .there) few i (f .inside);
           found = found;
+          body = procedure-is t (J .accepted) p (f .there) few;
           standsIn = stands-in;
           guests = guests-are t (J .accepted) p (f .there) few i (f .inside);
           fit = z .0;
@@ -130,6 +132,10 @@ module _ (t : List ℕ) (J : Judged t (indexOf t)) where
               let u : m .0 ≡ y = cc (s .entered (m .0) (m .1) id (m .2) .1, e .1) in rw u at z;
           entered = λ y a id m n. by opMoveTo y (omega arith) (omega arith) (entered-ok k y a id m n);
           left = λ y a id m n. by opMoveFrom y (omega arith) (omega arith) (left-ok k y a id m n);
+          packs = packs-ok k;
+          unpacks = unpacks-ok k;
+          keyed = keyed-ok k;
+          unkeyed = unkeyed-ok k;
         }
 
     -- what comes of it
@@ -161,7 +167,7 @@ module _ (t : List ℕ) (J : Judged t (indexOf t)) where
       go : (gs : List Frame) → Stack t (indexOf t) (v .T) (v .W) gs → MomentOk t J (state gs h st n) row o → Safe t (indexOf t) (moment (state gs h st n) row o)
       go gs (runs {id} {p} {i} {ops} {ls} {fs = below} f u) k =
           let w = k .holds in
-          let here-sound = sound (w .T) h (w .types) (w .records) gs st (w .store) (w .owned) in
+          let here-sound = sound (w .T) h (w .types) (w .records) gs st (w .store) (w .owned) (k .within .0) in
           let own = stack-kept J (J .accepted) (w .frames) in
           rw (k .at) (safe (record {
             ready = ready f (state gs h st n) (runs-on t J (state gs h st n) w);
@@ -181,23 +187,23 @@ module _ (t : List ℕ) (J : Judged t (indexOf t)) where
   done-as (state (frame id p i ops ls ∷ fs) h st n) vs z (ends q) = q .3
 
   -- an end is safe
-  end-go : (before : Base) (s : State) (row : ℕ) (o : Outcome) → BaseOk t J before → used before ≤ usedAt s → ((s′ : State) → o ≡ next s′ → ⊥) → OutcomeOk t (DidAt t s) o
+  end-go : (before : Base) (s : State) (row : ℕ) (o : Outcome) → BaseOk t J before → used before ≤ usedAt s → ((s′ : State) → o ≡ next s′ → ⊥) → OutcomeOk t (DidAt t s) o → Within t J s
       → ((vs : List Value) (z : State) → o ≡ finished vs z → z ≡ emptied s) → Safe t (indexOf t) (ended before s row o (afterwards before s o))
   unfolding BaseOk
-  end-go before s row (next z) v l f k d = absurd (f z refl)
-  end-go (base h₀ st₀ n₀) (state fs h st n) row (finished vs z) v l f k d =
+  end-go before s row (next z) v l f k w d = absurd (f z refl)
+  end-go (base h₀ st₀ n₀) (state fs h st n) row (finished vs z) v l f k w d =
       let e : z ≡ state [] h st n = d vs z refl in
       let u : Rest t h st × DidAt t (state fs h st n) h st × All IsNumber vs × (length vs ≤ maxResults) = rw e at k in
-      let after : Later t (indexOf t) (state fs h st n) (base h st n) = (omega arith, omega arith, between h st (u .0)) in
+      let after : Later t (indexOf t) (state fs h st n) (base h st n) = (omega arith, omega arith, between h st (u .0) (w .0)) in
       rw e (ends-there {s = state fs h st n} (finishes (u .2) (u .3)) after)
-  end-go (base h₀ st₀ n₀) (state fs h st n) row (stopped j) v l f k d =
+  end-go (base h₀ st₀ n₀) (state fs h st n) row (stopped j) v l f k w d =
       let back : Restored t (indexOf t) (base h₀ st₀ n₀) (base (restored h₀ h) st₀ n) = (refl, (λ id c e. nth-app h₀ (map bury (drop (length h₀) h)) id c e), buried-dead h₀ (drop (length h₀) h)) in
-      let after : Later t (indexOf t) (state fs h st n) (base (restored h₀ h) st₀ n) = (restored-length h₀ h l, omega arith, between (restored h₀ h) st₀ (restored-ok t J h₀ h st₀ (v .0) (v .1) .0)) in
+      let after : Later t (indexOf t) (state fs h st n) (base (restored h₀ h) st₀ n) = (restored-length h₀ h l, omega arith, let r = restored-ok t J h₀ h st₀ (v .0) (v .1) in between (restored h₀ h) st₀ (r .0) (r .1)) in
       ends-there (restores back) after
-  end-go before s row stuck v l f k d = absurd k
+  end-go before s row stuck v l f k w d = absurd k
 
   safe-ended : (before : Base) (s : State) (row : ℕ) (o : Outcome) (after : Base) → EndOk t J before s row o after → Safe t (indexOf t) (ended before s row o after)
-  safe-ended before s row o after m = rw (m .leaves) (end-go before s row o (m .began) (m .longer) (m .over) (outcome-ok t J s row o (m .last)) (λ vs z e. done-as s vs z (done-at vs z e)))
+  safe-ended before s row o after m = rw (m .leaves) (end-go before s row o (m .began) (m .longer) (m .over) (outcome-ok t J s row o (m .last)) (m .last .within) (λ vs z e. done-as s vs z (done-at vs z e)))
     where
       done-at : (vs : List Value) (z : State) → o ≡ finished vs z → HandedAt t J s (finished vs z)
       done-at vs z e = rw e at (⊎-elim (λ q. handed-moment s row o (m .last) q) (λ q. absurd (clash (cc (q, e)))) (m .last .did))

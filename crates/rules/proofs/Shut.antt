@@ -19,7 +19,7 @@ use Rattle.rules.specs.Step.{pushedOn, instruction, effectAt, step}
 use Rattle.rules.specs.History.{moment}
 use Rattle.rules.specs.Ownership.{inFrames, inRecords, inStore}
 use Rattle.rules.specs.Words.{procedureCount, moduleOf, declarer, inGuest, guest, guardedField, kindsIn, bodyOf, instructionRow, Holds, local, Exists, NumberIn, IsEntry}
-use Rattle.rules.specs.Claim.{Rising, Typed, Takes, Ready, SafeOutcome, goes, returnsLast, stops, Safe, safe}
+use Rattle.rules.specs.Claim.{IsReference, Plain, Rising, Typed, Takes, Ready, SafeOutcome, goes, returnsLast, stops, Safe, safe}
 use Rattle.rules.proofs.Changes.{clash}
 use Rattle.rules.proofs.Owning.{held-once, in-cells, entry-counted, lives-once}
 use Rattle.rules.proofs.Labels.{held-counted}
@@ -165,6 +165,21 @@ module _ (t : List ℕ) (ix : Index) (row id p i : ℕ) (ops : List Value) (ls :
 
   pub not-entry-of-other : {o : Outcome} {c y a y′ : ℕ} {vs : List Value} → IsEntry st y a c → nth rs c ≡ some (here y′ vs) → y′ ≢ y → SafeWith o → ⊥
   not-entry-of-other {c} {y} {a} e d f s = let z = safe-state s .sound .entered y a c e in f (cc (d, z .1))
+
+  -- two records stand under one key
+  pub not-two-under-key : {o : Outcome} {y a c c′ : ℕ} → IsEntry st y a c → IsEntry st y a c′ → c ≢ c′ → SafeWith o → ⊥
+  not-two-under-key {y = y} {a} {c} {c′} m m′ f s = f (safe-state s .sound .keys y a c c′ m m′)
+
+  -- a field holds a reference
+  pub not-in-a-field : {o : Outcome} (c y : ℕ) {v : Value} {vs : List Value} → nth rs c ≡ some (here y vs) → Mem v vs → IsReference v → SafeWith o → ⊥
+  not-in-a-field c y {v} {vs} e m r s = no-reference v r (all-out (safe-state s .sound .plain c y vs e) v m)
+    where
+      no-reference : (v : Value) → IsReference v → Plain v → ⊥
+      no-reference (num x) r k = r
+      no-reference (obj a b) r k = r
+      no-reference (toLocal f l x) r k = k
+      no-reference (toField a b j) r k = k
+      no-reference (toRecord a b) r k = k
 
   -- a record is in two places: a frame holds it, and it is an entry or stands in a field
   pub not-in-two-places : {o : Outcome} {c y y′ a : ℕ} {f : Frame} → Mem f (frame id p i ops ls ∷ fs) → Holds f (obj c y) → IsEntry st y′ a c → SafeWith o → ⊥

@@ -1,6 +1,6 @@
 -- Wrong steps are not safe: for each clause of the claim about what a step does, the wrong machines that it shuts out.
 use Prim.Native.Nat.{ℕ, _+_, _%_, _<_, _≤_}
-use mathlib.Core.Path.{_≡_, refl, _∙_}
+use mathlib.Core.Path.{_≡_, refl, sym, _∙_}
 use mathlib.Core.Bool.{true}
 use mathlib.Core.List.{List, [], _∷_, List·Memᴰ·head}
 use mathlib.Core.Logic.{_⊎_, ⊎-elim, _≢_}
@@ -11,13 +11,14 @@ use Rattle.table.specs.declared.index.Index.{Index}
 use Rattle.table.specs.Format.{opWriteRef, opBorrowLoc, opBorrowFld, opBorrowGlobal, opCall, opRet, opPack, opUnpack, opMoveTo, opMoveFrom}
 use Rattle.table.specs.Rows.{rowAt}
 use Rattle.reach.specs.Reach.{Mem}
+use Rattle.rules.specs.Step.{pushedOn}
 use Rattle.rules.specs.Machine.{Value, num, obj, toLocal, toField, toRecord, localOf, Cell, gone, here, Entry, Frame, frame, state, next, aRecord, target}
 use Rattle.rules.specs.History.{moment}
 use Rattle.rules.specs.Words.{typeCount, moduleOf, declarer, guest, guardedField, Holds, operand, Exists, NumberIn, IsEntry, InStore}
 use Rattle.rules.specs.Claim.{IsReference, Writes, Proper, Makes, Takes, Handed, Origin, goes, Safe, safe}
 use Rattle.rules.proofs.Changes.{clash}
 use Rattle.rules.proofs.Sounds.{nth-set, head-of, nth-inside}
-use Rattle.rules.proofs.Consequences.{safe-state, identity, procedure, under-same, call-under, ret-under, write-under, called-as, runs-on, to-local, to-field, borrows, called-with, left-with, returned-to, to-nested, through-record, through-local, to-entry}
+use Rattle.rules.proofs.Consequences.{safe-state, pushed-same, identity, procedure, under-same, call-under, ret-under, write-under, called-as, runs-on, to-local, to-field, borrows, called-with, left-with, returned-to, to-nested, through-record, through-local, to-entry}
 use Rattle.rules.proofs.Shut.{not-in-guest}
 
 -- A step is done: frame id of procedure p is at instruction i over the frames fs, `row` is told, and it leads to the state after
@@ -121,6 +122,24 @@ module _ (t : List ℕ) (ix : Index) (row id p i : ℕ) (ops : List Value) (ls :
 
     pub not-withdrawn-outside : Exists rs c y → InStore st c → ¬ (InStore st′ c) → declarer t y ≢ moduleOf t p → Done → ⊥
     not-withdrawn-outside e a b f s = f (proper-of s .withdrawn c y e a b .own ∙ safe-state s .ready .standsIn)
+
+    -- `packs`: Pack makes a record of other fields than it takes, or under another identity than the next
+    pub not-other-fields : {vs : List Value} (us rest : List Value) → nth rs′ c ≡ some (here y vs) → ¬ (Exists rs c y) → ops ≡ pushedOn us rest → length us ≡ length vs → us ≢ vs → Done → ⊥
+    not-other-fields {vs} us rest e f g l h s = let z = proper-of s .packs c y vs e f .1 in h (pushed-same us vs rest (z .0) l (sym g ∙ z .1) .0)
+
+    pub not-ahead : Exists rs′ c y → ¬ (Exists rs c y) → c ≢ length rs → Done → ⊥
+    not-ahead e f g s = g (proper-of s .packs c y (e .0) (e .1) f .0)
+
+    -- `unpacks`, `keyed`, `unkeyed`: another record is broken up than the one taken; another is published, or one under another address; one is withdrawn
+    -- from another address
+    pub not-broken-other : {v : Value} {rest : List Value} → Exists rs c y → ¬ (Exists rs′ c y) → ops ≡ v ∷ rest → v ≢ obj c y → Done → ⊥
+    not-broken-other e f g h s = let z = proper-of s .unpacks c y e f in h (cc (g, z .1))
+
+    pub not-published-other : {a : ℕ} {v w : Value} {rest : List Value} → IsEntry st′ y a c → ¬ (IsEntry st y a c) → ops ≡ w ∷ v ∷ rest → (v ≢ obj c y) ⊎ (w ≢ num a) → Done → ⊥
+    not-published-other {a} e f g h s = let z = proper-of s .keyed y a c e f in ⊎-elim (λ q. q (cc (g, z .1))) (λ q. q (cc (g, z .1))) h
+
+    pub not-withdrawn-other : {a : ℕ} {w : Value} {rest : List Value} → IsEntry st y a c → ¬ (IsEntry st′ y a c) → ops ≡ w ∷ rest → w ≢ num a → Done → ⊥
+    not-withdrawn-other {a} e f g h s = let z = proper-of s .unkeyed y a c e f in h (cc (g, z .1))
 
     -- `entered`, `left`: an entry changes its key in one step, though its record stays one
     pub not-rekeyed : {a y′ a′ : ℕ} → IsEntry st y a c → ¬ (IsEntry st′ y a c) → IsEntry st′ y′ a′ c → ¬ (IsEntry st y′ a′ c) → Done → ⊥

@@ -10,7 +10,7 @@ use Rattle.table.specs.declared.index.Index.{Index}
 use Rattle.table.specs.Format.{instructionKind, maxResults, opWriteRef, opBorrowLoc, opBorrowFld, opBorrowGlobal, opCall, opRet, opPack, opUnpack, opMoveTo, opMoveFrom}
 use Rattle.table.specs.Rows.{rowAt, kindAt}
 use Rattle.table.specs.Index.{ownerAt}
-use Rattle.program.specs.Program.{number, isReference, localKind, localCount}
+use Rattle.program.specs.Program.{number, isReference, procedureIn, localKind, localCount}
 use Rattle.reach.specs.Reach.{Mem}
 use Rattle.rules.specs.Limits.{pastNumbers}
 use Rattle.rules.specs.Machine.{Value, valueKind, num, obj, toLocal, toField, toRecord, putLocal, findKey, Cell, gone, here, Entry, Frame, frame, State, state, Outcome, next, finished, stopped, stuck, aRecord, target}
@@ -82,6 +82,7 @@ module _ (t : List ℕ) where
     pub plain : (id y : ℕ) (vs : List Value) → nth rs id ≡ some (here y vs) → All Plain vs
     pub shaped : Shaped rs
     pub entered : Entered rs st
+    pub keys : (y a id id′ : ℕ) → IsEntry st y a id → IsEntry st y a id′ → id ≡ id′
 
   -- A value is what it says. A reference names its record by the type that the record has or had, a field of it by the place of a number field; a
   -- reference to a local has the kind, no reference's, that the frame's procedure declares for the local
@@ -139,6 +140,11 @@ module _ (t : List ℕ) where
     pub withdrawn : (id y : ℕ) → Exists rs id y → InStore st id → ¬ (InStore st′ id) → By row opMoveFrom y
     pub entered : (y a id : ℕ) → IsEntry st′ y a id → ¬ (IsEntry st y a id) → By row opMoveTo y
     pub left : (y a id : ℕ) → IsEntry st y a id → ¬ (IsEntry st′ y a id) → By row opMoveFrom y
+    -- each of these is one record, told by the operands: the fields of the one made, which has the next identity; the record and the address
+    pub packs : (id y : ℕ) (vs : List Value) → nth rs′ id ≡ some (here y vs) → ¬ (Exists rs id y) → (id ≡ length rs) × ((rest : List Value) × (ops ≡ pushedOn vs rest))
+    pub unpacks : (id y : ℕ) → Exists rs id y → ¬ (Exists rs′ id y) → (rest : List Value) × (ops ≡ obj id y ∷ rest)
+    pub keyed : (y a id : ℕ) → IsEntry st′ y a id → ¬ (IsEntry st y a id) → (rest : List Value) × (ops ≡ num a ∷ obj id y ∷ rest)
+    pub unkeyed : (y a id : ℕ) → IsEntry st y a id → ¬ (IsEntry st′ y a id) → (rest : List Value) × (ops ≡ num a ∷ rest)
 
   -- The step of a row makes a reference: BorrowLoc to that local of its own frame; BorrowFld, through a reference that leads to a record, to that field of
   -- that record, or to the record that stands in it; BorrowGlobal to the record under that key
@@ -181,6 +187,7 @@ module _ (t : List ℕ) where
       pub inside : row < bodyOf t p .end
       pub kind : kindAt t row ≡ instructionKind
       pub found : instruction t ix p i ≡ rowAt t row
+      pub body : procedureIn ix p ≡ bodyOf t p
       pub standsIn : ownerAt t row ≡ moduleOf t p
       pub guests : inGuest t row ≡ guest t p
       pub fit : effectAt t ix p i ops .fit ≡ true
