@@ -62,20 +62,28 @@ pub fn rounds(procedures: usize, locals: u16) -> Vec<u8> {
     rows.concat()
 }
 
-/// The time of one call in nanoseconds, the least of several rounds.
-fn time(judge: fn(&[u8]) -> u64, table: &[u8]) -> f64 {
-    let calls = (4_000_000 / (table.len() + 200)).max(5);
-    let mut best = f64::INFINITY;
-    for _ in 0..7 {
-        let start = Instant::now();
-        let mut sum = 0u64;
-        for _ in 0..calls {
-            sum = sum.wrapping_add(judge(std::hint::black_box(table)));
-        }
-        std::hint::black_box(sum);
-        best = best.min(start.elapsed().as_nanos() as f64 / calls as f64);
+/// Samples of which the shortest counts, and the length of each in nanoseconds: short enough that most are not interrupted.
+const SAMPLES: usize = 400;
+const SAMPLE: f64 = 200_000.0;
+
+/// The time of `calls` calls in nanoseconds, for one.
+fn sample(judge: fn(&[u8]) -> u64, table: &[u8], calls: usize) -> f64 {
+    let start = Instant::now();
+    let mut sum = 0u64;
+    for _ in 0..calls {
+        sum = sum.wrapping_add(judge(std::hint::black_box(table)));
     }
-    best
+    std::hint::black_box(sum);
+    start.elapsed().as_nanos() as f64 / calls as f64
+}
+
+/// The times of one call of the two judges, each the least of many short samples, taken in turn.
+fn times(table: &[u8]) -> (f64, f64) {
+    let calls = |judge| (SAMPLE / sample(judge, table, 5)).max(1.0) as usize;
+    let (ours, theirs) = (calls(proved::judge), calls(plain));
+    (0..SAMPLES).fold((f64::INFINITY, f64::INFINITY), |(a, b), _| {
+        (a.min(sample(proved::judge, table, ours)), b.min(sample(plain, table, theirs)))
+    })
 }
 
 pub fn speed() {
@@ -92,7 +100,7 @@ pub fn speed() {
     for (name, table) in &tables {
         assert_eq!(proved::judge(table), plain(table), "{name}");
         let rows = table.len() / 16;
-        let (a, b) = (time(proved::judge, table), time(plain, table));
+        let (a, b) = times(table);
         println!("{:28} {:>6} {:>12.0} {:>12.0} {:>8.2} {:>10.1}", name, rows, a, b, a / b, a / rows as f64);
     }
 }
