@@ -16,7 +16,7 @@ use table::index::TypeEntry;
 // The kinds of the operands present, the number of them, and the number of the first fault or 0.
 pub struct Stack {
     pub kinds: [u32; 16],
-    pub height: usize,
+    pub height: u8,
     pub fault: u8,
 }
 
@@ -75,7 +75,7 @@ impl Stack {
             return self.fail(7);
         }
         let at = h - 1;
-        if self.kind_at(at) == k {
+        if self.kind_at(at as usize) == k {
             self.height = at;
             return self;
         }
@@ -93,7 +93,7 @@ impl Stack {
         if 16 <= h {
             return self.fail(8);
         }
-        self.kinds[h] = k;
+        self.kinds[h as usize] = k;
         self.height = h + 1;
         self
     }
@@ -109,7 +109,7 @@ impl Stack {
         if h == 0 {
             return NUMBER;
         }
-        self.kind_at(h - 1)
+        self.kind_at((h - 1) as usize)
     }
 
     // Takes operands of the kinds that the rows from `from` to before `to` declare, the last first.

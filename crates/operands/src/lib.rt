@@ -193,7 +193,7 @@ fn judge_procedure(table: &[u8], code: &[u8], own: ProcedureEntry, index: Index)
     requires { ⌜ now code ≡ codeOf (now table) own ⌝ }
     ensures { λ r. ⌜ r ≡ codeVerdict (codeFault (now (table .entry)) index own) (own .code) (rowCount (now (code .entry))) ⌝ }
 {
-    let mut marks = [false; 2048];
+    let mut marks = [false; format::MAX_INSTRUCTIONS];
     mark_targets(code, &mut marks);
     judge_code(table, code, &marks, own, index)
 }

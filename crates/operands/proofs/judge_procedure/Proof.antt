@@ -1,4 +1,5 @@
 use Rattle.operands.proofs.Laws.{told-marks}
+use Rattle.table.specs.Format.{maxInstructions}
 use borrow.Author.Needs.{needs}
 use Rattle.operands.proofs.judge_procedure.Statement.{statement}
 use Rattle.operands.proofs.judge_procedure.Tie as tie
@@ -13,7 +14,7 @@ slice-aggregate-judge-code : tie.Need-slice-aggregate-judge-code
 slice-aggregate-judge-code c = search needs
 
 judge-code-requires : tie.Need-judge-code-requires
-judge-code-requires c κs = (c .before .before .before .before .before .before .pre, told-marks _ _ 2048 (c .before .before .mark-targets .ensures))
+judge-code-requires c κs = (c .before .before .before .before .before .before .pre, told-marks _ _ maxInstructions (c .before .before .mark-targets .ensures))
 
 returns : tie.Need-returns
 returns c = search needs

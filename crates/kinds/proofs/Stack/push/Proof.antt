@@ -15,6 +15,9 @@ fail-requires c κs = search needs
 returns-2 : tie.Need-returns-2
 returns-2 c = c .fail .ensures ∙ push-full _ _ _ (c .before .before .if1 .left) _ (c .before .if2 .taken)
 
+cast-self : tie.Need-cast-self
+cast-self c = search needs
+
 mul-self : tie.Need-mul-self
 mul-self c = search needs
 
@@ -30,4 +33,4 @@ returns-3 c = push-yes _ _ _ (c .before .if1 .left) _ (c .if2 .left) (search nee
 pub push-spec : {M : Type 1} → statement M
 push-spec =
     tie.close
-    (tie.spec returns fail-requires returns-2 mul-self element-write-self add-self returns-3)
+    (tie.spec returns fail-requires returns-2 cast-self mul-self element-write-self add-self returns-3)

@@ -18,6 +18,9 @@ returns-2 c = c .fail .ensures ∙ take-none _ _ _ (c .before .before .if1 .left
 sub-at : tie.Need-sub-at
 sub-at c = search needs
 
+cast-kind-at : tie.Need-cast-kind-at
+cast-kind-at c = search needs
+
 kind-at-requires : tie.Need-kind-at-requires
 kind-at-requires c κs = search needs
 
@@ -38,6 +41,7 @@ take-spec =
     fail-requires
     returns-2
     sub-at
+    cast-kind-at
     kind-at-requires
     returns-3
     fail-requires-2
