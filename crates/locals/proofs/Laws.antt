@@ -1,11 +1,13 @@
 -- Laws of the search for what walks leave in a local, and of the faults that follow from it.
-use Prim.Native.Nat.{ℕ, zero, suc, _+_, _-_, _*_, _/_, _%_, _<_, _≤_}
+use Prim.Native.Nat.{ℕ, zero, suc, _+_, _*_, _/_, _%_, _<_, _≤_}
 use mathlib.Core.Path.{_≡_, refl, sym, ap, _∙_}
-use mathlib.Core.Bool.{Bool, true, false, cond, not, _&&_, _||_, and-false, and-comm, false≢true, Bool·not-not}
+use mathlib.Core.Bool.{Bool, true, false, cond, _&&_, _||_, or-true, and-false, false≢true}
 use mathlib.Core.List.{List, [], _∷_, List·Memᴰ·eq-of-singleton}
 use native.Mathlib.Nat.{mul-le-mul}
+use native.Mathlib.Decide.{ℕ-discrete}
+use native.Mathlib.Numerals.{add-one}
 use native.Mathlib.Omega.{arith}
-use borrow.Author.Tests.{le-ltb, ltb-true, eqb-true}
+use borrow.Author.Tests.{ltb-true, eqb-true}
 use lib.Dec.{eqb, ltb}
 use lib.ListN.{length, getD, take, drop, replicate, length-replicate}
 use Rattle.laws.specs.First.{firstFault}
@@ -24,9 +26,10 @@ use Rattle.flow.specs.Steps.{below, nextOf, nexts}
 use Rattle.flow.specs.Places.{nodesOf as nodesFrom, succs, localMoves, statusAfter, startStatus, localNodes, reached, canBeEmpty, canBeFull}
 use Rattle.spread.proofs.Laws.{graph-inside, next-below}
 use Rattle.locals.specs.declared.LocalSet.{LocalSet}
-use Rattle.locals.specs.Sets.{contains, meetsBelow, meets, those}
-use Rattle.locals.specs.Locals.{bareStep, parameterCount, needsFull, nodesOf, leavesEmpty, leavesFull, leavesRecord, leavesSome, localFault, faultFrom}
-use Rattle.locals.proofs.Sets.{contains-those, meets-past}
+use Rattle.locals.specs.Sets.{those}
+use Rattle.locals.specs.Locals.{bareStep, parameterCount, needsFull, nodesOf, leavesEmpty, leavesFull, leavesRecord, leavesSome, localFault}
+use Rattle.locals.specs.Faults.{emptyAt, fullAt, recordAt, someRecord, faultFrom}
+use Rattle.locals.proofs.Sets.{contains-those}
 use Rattle.locals.proofs.Parts.{part-at}
 
 -- The search from the status that local l starts with.
@@ -129,48 +132,53 @@ module _ (t : List ℕ) (p : ProcedureEntry) (nodes : List Bool) (few : localCou
   node-at : (l k : ℕ) → l < localCount p → k < 2 * rowCount (codeOf t p) → getD nodes (2 * rowCount (codeOf t p) * l + k) false ≡ getD (nodesOf (codeOf t p) (parameterCount t p) l) k false
   node-at l k h e = part-at _ _ nodes _ k false e (parts l h)
 
-  -- what the sets say of local l: full on some walk, full on every walk, a record
-  abbrev sometimes : ℕ → Bool
-  sometimes l = getD nodes (2 * rowCount (codeOf t p) * l + 2 * i) false
-
-  abbrev always : ℕ → Bool
-  always l = not (getD nodes (2 * rowCount (codeOf t p) * l + (2 * i + 1)) false)
-
+  -- whether local l is a record
   abbrev isKept : ℕ → Bool
   isKept l = isRecord (localKind t p l)
 
-  empty-same : (l : ℕ) → (ltb l (localCount p) && not (contains (those always (localCount p)) l)) ≡ leavesEmpty t p l i
+  empty-same : (l : ℕ) → (ltb l (localCount p) && emptyAt nodes (rowCount (codeOf t p)) l i) ≡ leavesEmpty t p l i
   unfolding leavesEmpty
-  empty-same l = rw (contains-those always (localCount p) l few) (go (ltb l (localCount p)) refl)
+  empty-same l = go (ltb l (localCount p)) refl
     where
-      go : (b : Bool) → ltb l (localCount p) ≡ b → (b && not (b && always l)) ≡ (b && canBeEmpty (nodesOf (codeOf t p) (parameterCount t p) l) i)
-      go true e = Bool·not-not _ ∙ node-at l (2 * i + 1) (ltb-true l (localCount p) e) (omega arith)
+      go : (b : Bool) → ltb l (localCount p) ≡ b → (b && emptyAt nodes (rowCount (codeOf t p)) l i) ≡ (b && canBeEmpty (nodesOf (codeOf t p) (parameterCount t p) l) i)
+      go true e = node-at l (2 * i + 1) (ltb-true l (localCount p) e) (omega arith)
       go false e = refl
 
-  record-same : (l : ℕ) → (contains (those isKept (localCount p)) l && contains (those sometimes (localCount p)) l) ≡ leavesRecord t p l i
+  record-same : (l : ℕ) → recordAt nodes (rowCount (codeOf t p)) (localCount p) (those isKept (localCount p)) i l ≡ leavesRecord t p l i
   unfolding leavesRecord leavesFull
-  record-same l = rw (contains-those isKept (localCount p) l few, contains-those sometimes (localCount p) l few) (go (ltb l (localCount p)) refl)
+  record-same l = rw (contains-those isKept (localCount p) l few) (go (ltb l (localCount p)) refl)
     where
-      go : (b : Bool) → ltb l (localCount p) ≡ b → (b && isKept l && (b && sometimes l)) ≡ (isKept l && (b && canBeFull (nodesOf (codeOf t p) (parameterCount t p) l) i))
+      go : (b : Bool) → ltb l (localCount p) ≡ b → (b && (b && isKept l && fullAt nodes (rowCount (codeOf t p)) l i)) ≡ (isKept l && (b && canBeFull (nodesOf (codeOf t p) (parameterCount t p) l) i))
       go true e = ap (λ (x : Bool). isKept l && x) (node-at l (2 * i) (ltb-true l (localCount p) e) (omega arith))
       go false e = sym (and-false (isKept l))
 
-  some-below : (n : ℕ) → meetsBelow (those sometimes (localCount p)) (those isKept (localCount p)) n ≡ leavesSome t p n i
-  unfolding meetsBelow leavesSome
-  some-below zero = refl
-  some-below (suc n) = rw (some-below n, and-comm (contains (those sometimes (localCount p)) n) (contains (those isKept (localCount p)) n), record-same n)
-
-  some-same : meets (those sometimes (localCount p)) (those isKept (localCount p)) ≡ leavesSome t p (localCount p) i
-  unfolding meets
-  some-same =
-      let e : localCount p + (16 - localCount p) ≡ 16 = omega arith in
-      rw e at (meets-past (those sometimes (localCount p)) (those isKept (localCount p)) (localCount p) (16 - localCount p)
-      (λ l h. rw (contains-those sometimes (localCount p) l few, le-ltb l (localCount p) h)))
-      ∙ some-below (localCount p)
+  some-same : (k : ℕ) → someRecord nodes (rowCount (codeOf t p)) (localCount p) (those isKept (localCount p)) i k ≡ leavesSome t p k i
+  unfolding someRecord leavesSome
+  some-same zero = refl
+  some-same (suc k) = rw (some-same k, record-same k)
 
   fault-same : faultFrom nodes (rowAt (codeOf t p) i) (rowCount (codeOf t p)) (localCount p) (those isKept (localCount p)) i ≡ localFault t p i
   unfolding faultFrom localFault
   fault-same = rw (empty-same, record-same, some-same)
+
+-- a record in a local is found, and none below k + 1 where local k has none
+module _ (nodes : List Bool) (n count : ℕ) (records : LocalSet) (i : ℕ) where
+  pub record-none : someRecord nodes n count records i 0 ≡ false
+  unfolding someRecord
+  record-none = refl
+
+  pub record-past : (k : ℕ) → someRecord nodes n count records i k ≡ false → recordAt nodes n count records i k ≡ false → someRecord nodes n count records i (k + 1) ≡ false
+  unfolding someRecord
+  record-past k e h = rw (add-one, e, h)
+
+  pub record-found : (k m : ℕ) → k < m → recordAt nodes n count records i k ≡ true → someRecord nodes n count records i m ≡ true
+  unfolding someRecord
+  record-found k zero h e = absurd (omega arith)
+  record-found k (suc m) h e = go (ℕ-discrete k m) (λ l. record-found k m l e)
+    where
+      go : Dec (k ≡ m) → (k < m → someRecord nodes n count records i m ≡ true) → (someRecord nodes n count records i m || recordAt nodes n count records i m) ≡ true
+      go (yes q) ih = rw (← q, e, or-true)
+      go (no q) ih = rw (ih (omega arith))
 
 -- passes with the same faults
 pass-same : {A : Type 0} (clean : ℕ → A) (bad : ℕ → ℕ → A) (f g : ℕ → ℕ) (i left : ℕ) → ((j : ℕ) → i ≤ j → j < i + left → f j ≡ g j) → firstFault clean bad f i left ≡ firstFault clean bad g i left

@@ -2,18 +2,17 @@
 use Prim.Native.Nat.{ℕ, zero, suc, _+_, _<_, _≤_}
 use mathlib.Core.Path.{_≡_, refl, sym, ap, _∙_}
 use mathlib.Core.List.{List}
-use mathlib.Core.Bool.{Bool, true, false, cond, _&&_, or-true, or-false, and-false}
+use mathlib.Core.Bool.{Bool, true, false, cond, _&&_, and-false}
 use mathlib.Core.Logic.{_⊎_, inl, inr}
-use native.Mathlib.Nat.{add-zero, add-suc}
 use native.Mathlib.Decide.{ℕ-discrete, decLt}
 use native.Mathlib.Numerals.{add-one}
 use native.Mathlib.Omega.{arith}
 use borrow.Author.Tests.{lt-ltb, le-ltb}
 use lib.Dec.{ltb}
-use lib.ListN.{length, getD, set, replicate, length-set, length-replicate, getD-replicate, List·getD-eq-default}
+use lib.ListN.{length, getD, replicate, length-set, length-replicate, getD-replicate, List·getD-eq-default}
 use lib.Seq.{getD-set-same, getD-set-other, set-out}
 use Rattle.locals.specs.declared.LocalSet.{LocalSet}
-use Rattle.locals.specs.Sets.{noLocals, inserted, contains, meetsBelow, those}
+use Rattle.locals.specs.Sets.{noLocals, inserted, contains, those}
 
 -- a number that is no local's
 module _ (s : LocalSet) (size : length (s .has) ≡ 16) (l : ℕ) where
@@ -66,26 +65,3 @@ module _ (test : ℕ → Bool) where
       go false q (yes e) ih = rw (e, q, and-false) (rw (e, q, and-false) at ih)
       go true q (no e) ih = getD-set-other (those test n .has) n l true false e ∙ ih ∙ ap (λ (x : Bool). x && test l) (same e (decLt l n))
       go false q (no e) ih = ih ∙ ap (λ (x : Bool). x && test l) (same e (decLt l n))
-
--- a local in both sets
-module _ (s o : LocalSet) where
-  pub meets-zero : meetsBelow s o 0 ≡ false
-  unfolding meetsBelow
-  meets-zero = refl
-
-  pub meets-none : (n : ℕ) → meetsBelow s o n ≡ false → (contains s n ≡ false) ⊎ (contains o n ≡ false) → meetsBelow s o (n + 1) ≡ false
-  unfolding meetsBelow
-  meets-none n e (inl h) = rw (add-one, e, h)
-  meets-none n e (inr h) = rw (add-one, e, h, and-false)
-
-  -- where the first set has none from n on, those below n tell
-  pub meets-past : (n k : ℕ) → ((l : ℕ) → n ≤ l → contains s l ≡ false) → meetsBelow s o (n + k) ≡ meetsBelow s o n
-  unfolding meetsBelow
-  meets-past n zero h = rw add-zero refl
-  meets-past n (suc k) h = rw (add-suc, h (n + k) (omega arith), or-false) (meets-past n k h)
-
-  -- a local in both is found
-  pub meets-at : (n k : ℕ) → contains s n ≡ true → contains o n ≡ true → meetsBelow s o (n + 1 + k) ≡ true
-  unfolding meetsBelow
-  meets-at n zero p q = rw (add-zero, add-one, p, q, or-true)
-  meets-at n (suc k) p q = rw (add-suc (n + 1) k, meets-at n k p q)

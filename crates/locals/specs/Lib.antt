@@ -1,3 +1,4 @@
 pub mod Sets
 pub mod Locals
+pub mod Faults
 pub mod Within

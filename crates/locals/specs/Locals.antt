@@ -1,10 +1,8 @@
 -- The locals pass: refusals 11 and 12 of document 01.
-use Prim.Native.Nat.{ℕ, zero, suc, _+_, _-_, _*_}
-use mathlib.Core.Bool.{Bool, false, cond, not, _&&_, _||_}
+use Prim.Native.Nat.{ℕ, zero, suc, _+_, _-_}
+use mathlib.Core.Bool.{Bool, false, cond, _&&_, _||_}
 use mathlib.Core.List.{List, []}
 use lib.Dec.{eqb, ltb}
-use lib.ListN.{getD}
-use Rattle.table.specs.declared.Row.{Row}
 use Rattle.table.specs.declared.Verdict.{Verdict}
 use Rattle.table.specs.declared.index.ProcedureEntry.{ProcedureEntry}
 use Rattle.table.specs.Format.{opMvLoc, opCpLoc, opStLoc, opBorrowLoc, opRet}
@@ -13,8 +11,6 @@ use Rattle.table.specs.Index.{indexOf}
 use Rattle.program.specs.Program.{codeOf, codePass, localCount, localKind, parametersEnd, isRecord}
 use Rattle.flow.specs.Steps.{Step, nexts}
 use Rattle.flow.specs.Places.{localNodes, canBeEmpty, canBeFull}
-use Rattle.locals.specs.declared.LocalSet.{LocalSet}
-use Rattle.locals.specs.Sets.{contains, meets, those}
 
 -- what locals depend on: opcode and operand
 abbrev pub bareStep : List ℕ → ℕ → Step
@@ -59,10 +55,3 @@ module _ (t : List ℕ) (p : ProcedureEntry) where
 -- the locals pass over a table
 unfoldable pub localsOf : List ℕ → Verdict
 localsOf t = codePass (localFault t) (indexOf t) t
-
--- The same fault, from the nodes of all locals in one list, local l's at 2 n l, and the set of the locals that are records.
-unfoldable pub faultFrom : List Bool → Row → ℕ → ℕ → LocalSet → ℕ → ℕ
-faultFrom nodes row n count records i =
-    cond (needsFull (row .a) && (ltb (row .b) count && not (contains (those (λ (l : ℕ). not (getD nodes (2 * n * l + (2 * i + 1)) false)) count) (row .b)))) 11
-    (cond (eqb (row .a) opStLoc && (contains records (row .b) && contains (those (λ (l : ℕ). getD nodes (2 * n * l + 2 * i) false) count) (row .b))) 12
-    (cond (eqb (row .a) opRet && meets (those (λ (l : ℕ). getD nodes (2 * n * l + 2 * i) false) count) records) 12 0))

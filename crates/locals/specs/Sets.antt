@@ -1,6 +1,6 @@
 -- Sets of locals, of which there are at most 16.
 use Prim.Native.Nat.{ℕ, zero, suc}
-use mathlib.Core.Bool.{Bool, true, false, cond, _&&_, _||_}
+use mathlib.Core.Bool.{Bool, true, false, cond}
 use lib.ListN.{getD, set, replicate}
 use Rattle.table.specs.Format.{maxLocals}
 use Rattle.locals.specs.declared.LocalSet.{LocalSet}
@@ -16,14 +16,6 @@ inserted s l = record { has = set (s .has) l true }
 -- whether local l is in the set
 unfoldable pub contains : LocalSet → ℕ → Bool
 contains s l = getD (s .has) l false
-
--- whether some local is in both sets, among the first n
-unfoldable pub meetsBelow : LocalSet → LocalSet → ℕ → Bool
-meetsBelow s o zero = false
-meetsBelow s o (suc n) = meetsBelow s o n || (contains s n && contains o n)
-
-unfoldable pub meets : LocalSet → LocalSet → Bool
-meets s o = meetsBelow s o maxLocals
 
 -- the set of the locals below n of which a test holds
 unfoldable pub those : (ℕ → Bool) → ℕ → LocalSet

@@ -1,9 +1,9 @@
 // The locals pass: refusals 11 and 12.
 ghost use mathlib.Core.Path.{_≡_};
-ghost use mathlib.Core.Bool.{false, cond, not};
+ghost use mathlib.Core.Bool.{false, cond, not, _&&_};
 ghost use Prim.Native.Nat.{ℕ, _+_, _*_, _≤_, _<_};
-ghost use lib.Dec.{eqb};
-ghost use lib.ListN.{length, getD, take, drop};
+ghost use lib.Dec.{eqb, ltb};
+ghost use lib.ListN.{length, take, drop};
 ghost use Rattle.reach.specs.Search.{after, visitAll};
 ghost use Rattle.table.specs.Format.{opMvLoc, opStLoc};
 ghost use Rattle.table.specs.Rows.{rowAt, rowCount};
@@ -11,8 +11,9 @@ ghost use Rattle.program.specs.Program.{isRecord, localKind, codeOf, codeVerdic
 ghost use Rattle.program.specs.Limits.{limited};
 ghost use Rattle.flow.specs.Steps.{nexts};
 ghost use Rattle.flow.specs.Places.{succs, localMoves, startStatus};
-ghost use Rattle.locals.specs.Sets.{inserted, contains, meets, those};
-ghost use Rattle.locals.specs.Locals.{bareStep, parameterCount, needsFull, nodesOf, localFault, faultFrom};
+ghost use Rattle.locals.specs.Sets.{inserted, contains, those};
+ghost use Rattle.locals.specs.Locals.{bareStep, parameterCount, needsFull, nodesOf, localFault};
+ghost use Rattle.locals.specs.Faults.{emptyAt, fullAt, recordAt, someRecord, faultFrom};
 ghost use Rattle.locals.specs.Within.{localsWithin};
 use spread::Moves;
 use table::Row;
@@ -44,22 +45,6 @@ impl LocalSet {
         ensures { λ r. ⌜ r ≡ contains self l ⌝ }
     {
         if l < 16 { self.has[l] } else { false }
-    }
-
-    // Whether some local is in both sets.
-    pub fn meets(self, other: LocalSet) -> bool
-        ensures { λ r. ⌜ r ≡ meets self other ⌝ }
-    {
-        let mut l = 0;
-        while l < 16 {
-            if self.has[l] {
-                if other.has[l] {
-                    return true;
-                }
-            }
-            l += 1;
-        }
-        false
     }
 }
 
@@ -148,7 +133,7 @@ fn spread_locals(nodes: &mut [bool], queue: &mut [u16], code: &[u8], params: usi
 // The status of local l on arriving at instruction i of n: whether some walk leaves it empty, or full.
 fn can_be_empty(nodes: &[bool], n: usize, l: usize, i: usize) -> bool
     requires { ⌜ (n ≤ 256) × (l < 16) × (i < 256) ⌝ }
-    ensures { λ r. ⌜ r ≡ getD (now (nodes .entry)) (2 * n * l + (2 * i + 1)) false ⌝ }
+    ensures { λ r. ⌜ r ≡ emptyAt (now (nodes .entry)) n l i ⌝ }
 {
     let at = 2 * n * l + (2 * i + 1);
     if at < nodes.len() { nodes[at] } else { false }
@@ -156,7 +141,7 @@ fn can_be_empty(nodes: &[bool], n: usize, l: usize, i: usize) -> bool
 
 fn can_be_full(nodes: &[bool], n: usize, l: usize, i: usize) -> bool
     requires { ⌜ (n ≤ 256) × (l < 16) × (i < 256) ⌝ }
-    ensures { λ r. ⌜ r ≡ getD (now (nodes .entry)) (2 * n * l + 2 * i) false ⌝ }
+    ensures { λ r. ⌜ r ≡ fullAt (now (nodes .entry)) n l i ⌝ }
 {
     let at = 2 * n * l + 2 * i;
     if at < nodes.len() { nodes[at] } else { false }
@@ -165,7 +150,7 @@ fn can_be_full(nodes: &[bool], n: usize, l: usize, i: usize) -> bool
 // The locals that are full on every walk that arrives at instruction i.
 fn always_full(nodes: &[bool], n: usize, count: usize, i: usize) -> LocalSet
     requires { ⌜ (n ≤ 256) × (count ≤ 16) × (i < 256) ⌝ }
-    ensures { λ r. ⌜ r ≡ those (λ (l : ℕ). not (getD (now (nodes .entry)) (2 * n * l + (2 * i + 1)) false)) count ⌝ }
+    ensures { λ r. ⌜ r ≡ those (λ (l : ℕ). not (emptyAt (now (nodes .entry)) n l i)) count ⌝ }
 {
     let mut set = LocalSet::EMPTY;
     let mut l = 0;
@@ -178,20 +163,55 @@ fn always_full(nodes: &[bool], n: usize, count: usize, i: usize) -> LocalSet
     set
 }
 
-// The locals that some walk that arrives at instruction i leaves full.
-fn sometimes_full(nodes: &[bool], n: usize, count: usize, i: usize) -> LocalSet
+// Whether some walk leaves local l empty: it is not in the set of the locals that are full on every walk. One look at l spares the set wherever l is in it,
+// so that it is built once at most, for the row that is refused.
+fn leaves_empty(nodes: &[bool], n: usize, count: usize, l: usize, i: usize) -> bool
     requires { ⌜ (n ≤ 256) × (count ≤ 16) × (i < 256) ⌝ }
-    ensures { λ r. ⌜ r ≡ those (λ (l : ℕ). getD (now (nodes .entry)) (2 * n * l + 2 * i) false) count ⌝ }
+    ensures { λ r. ⌜ r ≡ (ltb l count && emptyAt (now (nodes .entry)) n l i) ⌝ }
 {
-    let mut set = LocalSet::EMPTY;
+    if count <= l {
+        return false;
+    }
+    if !can_be_empty(nodes, n, l, i) {
+        return false;
+    }
+    !always_full(nodes, n, count, i).contains(l)
+}
+
+// Whether some walk leaves a record in local l. `records` has the locals that are records.
+fn leaves_record(
+    nodes: &[bool],
+    n: usize,
+    count: usize,
+    records: LocalSet,
+    l: usize,
+    i: usize,
+) -> bool
+    requires { ⌜ (n ≤ 256) × (count ≤ 16) × (i < 256) ⌝ }
+    ensures { λ r. ⌜ r ≡ recordAt (now (nodes .entry)) n count records i l ⌝ }
+{
+    if count <= l {
+        return false;
+    }
+    if records.contains(l) {
+        return can_be_full(nodes, n, l, i);
+    }
+    false
+}
+
+// Whether some walk leaves a record in any local.
+fn leaves_some(nodes: &[bool], n: usize, count: usize, records: LocalSet, i: usize) -> bool
+    requires { ⌜ (n ≤ 256) × (count ≤ 16) × (i < 256) ⌝ }
+    ensures { λ r. ⌜ r ≡ someRecord (now (nodes .entry)) n count records i count ⌝ }
+{
     let mut l = 0;
     while l < count {
-        if can_be_full(nodes, n, l, i) {
-            set = set.insert(l);
+        if leaves_record(nodes, n, count, records, l, i) {
+            return true;
         }
         l += 1;
     }
-    set
+    false
 }
 
 // Whether local l of a procedure is a record.
@@ -247,23 +267,19 @@ fn fault_at(nodes: &[bool], row: Row, n: usize, count: usize, records: LocalSet,
     let opcode = row.a;
     let b = row.b as usize;
     if needs_full(opcode) {
-        if b < count {
-            if !always_full(nodes, n, count, i).contains(b) {
-                return 11;
-            }
+        if leaves_empty(nodes, n, count, b, i) {
+            return 11;
         }
         return 0;
     }
     if opcode == format::ST_LOC {
-        if records.contains(b) {
-            if sometimes_full(nodes, n, count, i).contains(b) {
-                return 12;
-            }
+        if leaves_record(nodes, n, count, records, b, i) {
+            return 12;
         }
         return 0;
     }
     if opcode == format::RET {
-        if sometimes_full(nodes, n, count, i).meets(records) {
+        if leaves_some(nodes, n, count, records, i) {
             return 12;
         }
     }

@@ -1,10 +1,10 @@
 -- The invariant: the set has those of the locals below l that belong to it.
 use Rattle.locals.specs.Sets.{those}
 use Rattle.locals.proofs.Sets.{those-none, those-more}
-use lib.ListN.{getD}
+use Rattle.locals.specs.Faults.{emptyAt}
 use mathlib.Core.Logic.{⊎-elim, inl, inr}
-use mathlib.Core.Bool.{not, false}
-use Prim.Native.Nat.{ℕ, _+_, _*_, _≤_, _-_}
+use mathlib.Core.Bool.{not}
+use Prim.Native.Nat.{ℕ, _≤_, _-_}
 use mathlib.Core.Path.{_≡_, ap, _∙_}
 use borrow.Author.Needs.{needs}
 use native.Mathlib.Omega.{arith}
@@ -12,7 +12,7 @@ use Rattle.locals.proofs.always_full.Statement.{statement}
 use Rattle.locals.proofs.always_full.Tie as tie
 
 abbrev Inv-loop : tie.InvT-loop
-Inv-loop nodes n count i set₀ l₀ set l = (l ≤ count) × (set ≡ those (λ (l : ℕ). not (getD nodes (2 * n * l + (2 * i + 1)) false)) l)
+Inv-loop nodes n count i set₀ l₀ set l = (l ≤ count) × (set ≡ those (λ (l : ℕ). not (emptyAt nodes n l i)) l)
 
 abbrev μ-loop : tie.MeasureT-loop
 μ-loop nodes n count i set₀ l₀ set l = count - l

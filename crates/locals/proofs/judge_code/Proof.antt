@@ -1,5 +1,5 @@
 -- The invariant: no instruction before instruction i is faulty.
-use Rattle.locals.specs.Locals.{faultFrom}
+use Rattle.locals.specs.Faults.{faultFrom}
 use Rattle.program.specs.Program.{codeVerdict}
 use Rattle.table.specs.Rows.{rowAt, rowCount}
 use Rattle.table.specs.declared.Verdict.the-variants.{Accepted, Refused}
