@@ -1,3 +1,4 @@
 pub mod Moves
 pub mod Laws
 pub mod Lists
+pub mod Unmarked

@@ -1,17 +1,17 @@
 -- Laws of where marks go.
 use Prim.Native.Nat.{ℕ, suc, _+_, _-_, _<_, _≤_}
 use mathlib.Core.Path.{_≡_, refl, sym, ap, _∙_}
-use mathlib.Core.Bool.{Bool, true, false, cond, _&&_}
+use mathlib.Core.Bool.{Bool, true, false, cond, _&&_, and-false}
 use mathlib.Core.List.{List, [], _∷_, _++_, append-assoc, append-nil}
 use mathlib.Core.Logic.{_⊎_, inl, inr}
 use native.Mathlib.Decide.{decLt}
 use native.Mathlib.Numerals.{add-one}
 use native.Mathlib.Omega.{arith}
-use borrow.Author.Tests.{eq-eqb, ne-eqb, lt-ltb, le-ltb, ltb-true}
-use lib.Dec.{eqb, ltb}
+use borrow.Author.Tests.{eq-eqb, ne-eqb, lt-ltb, le-ltb, ltb-true, le-leb, lt-leb}
+use lib.Dec.{eqb, ltb, leb}
 use lib.ListN.{length, getD, drop, length-append, length-drop, drop-of-length-le, List·getD-eq-default}
 use lib.Seq.{drop-cons, getD-drop}
-use Rattle.laws.specs.Lists.{tabulate}
+use Rattle.laws.specs.Lists.{tabulate, none}
 use Rattle.laws.proofs.Lists.{length-tabulate, getD-tabulate}
 use Rattle.reach.specs.Reach.{Mem, here, there}
 use Rattle.table.specs.Format.{opMvLoc, opCpLoc, opStLoc}
@@ -20,6 +20,7 @@ use Rattle.flow.specs.Places.{freshPlaces, within, markMoves, placeMoves}
 use Rattle.spread.specs.Moves.{added}
 use Rattle.steps.specs.declared.Shape.{Shape}
 use Rattle.steps.specs.Steps.{viewStep}
+use Rattle.leaks.specs.Unmarked.{makesNoMark}
 
 -- what is within is below 33
 within-below : (xs : List ℕ) (y : ℕ) → Mem y (within xs) → y < 33
@@ -69,10 +70,6 @@ module _ (s : Step) (x : ℕ) (some : 17 ≤ x) where
   unfolding within markMoves
   operand-lost h e = rw (ne-eqb x 0 (λ e. omega arith), le-ltb x 17 some, lt-ltb (x - 17) (s .takes) h, neither e)
     where
-      and-false : (b : Bool) → (b && false) ≡ false
-      and-false true = refl
-      and-false false = refl
-
       neither : (s .opcode ≡ opStLoc → ⊥) ⊎ (16 ≤ s .operand) → (eqb (s .opcode) opStLoc && ltb (s .operand) 16) ≡ false
       neither (inl n) = rw (ne-eqb (s .opcode) opStLoc n)
       neither (inr l) = rw (le-ltb (s .operand) 16 l) (and-false (eqb (s .opcode) opStLoc))
@@ -109,21 +106,36 @@ module _ (s : Shape) where
   unfolding within markMoves viewStep
   fresh-start e = rw e (refl, omega arith)
 
+  -- no mark is past the fourth operand
+  none-past : length (s .fresh) ≡ 4 → (r : ℕ) → 4 ≤ r → freshPlaces (drop r marks) ≡ []
+  none-past size r h = none-fresh (drop r marks) past
+    where
+      past : (k : ℕ) → getD (drop r marks) k false ≡ false
+      past k = getD-drop r marks k false ∙ go (decLt (r + k) (s .gives))
+        where
+          go : Dec (r + k < s .gives) → getD marks (r + k) false ≡ false
+          go (yes l) = getD-tabulate _ false (s .gives) (r + k) l ∙ List·getD-eq-default (s .fresh) false {n = r + k} (omega arith)
+          go (no l) = List·getD-eq-default marks false {n = r + k} (rw length-tabulate (omega arith))
+
+  -- operand r that is pushed, and those after it
+  next : (r : ℕ) → r < s .gives → drop r marks ≡ getD (s .fresh) r false ∷ drop (r + 1) marks
+  next r h = rw add-one (drop-cons marks r false (rw length-tabulate h) ∙ ap (λ (m : Bool). m ∷ drop (suc r) marks) (getD-tabulate _ false (s .gives) r h))
+
+  none-left : (r : ℕ) → s .gives ≤ r → drop r marks ≡ []
+  none-left r h = drop-of-length-le marks {i = r} (rw length-tabulate h)
+
   module _ (xs : List ℕ) (r : ℕ) (before : Placed xs r) where
     -- past the last
     pub fresh-none : s .gives ≤ r → Placed xs (r + 1)
     fresh-none h = (
-      before .0 ∙ ap (λ (ms : List Bool). xs ++ within (freshPlaces ms)) (drop-of-length-le marks {i = r} (rw length-tabulate h) ∙ sym (drop-of-length-le marks {i = r + 1} (rw length-tabulate (omega arith)))),
+      before .0 ∙ ap (λ (ms : List Bool). xs ++ within (freshPlaces ms)) (none-left r h ∙ sym (none-left (r + 1) (omega arith))),
       omega arith,
     )
 
     module _ (there : r < s .gives) where
-      next : drop r marks ≡ getD (s .fresh) r false ∷ drop (r + 1) marks
-      next = rw add-one (drop-cons marks r false (rw length-tabulate there) ∙ ap (λ (m : Bool). m ∷ drop (suc r) marks) (getD-tabulate _ false (s .gives) r there))
-
       pub fresh-unmarked : getD (s .fresh) r false ≡ false → Placed xs (r + 1)
       unfolding freshPlaces
-      fresh-unmarked e = (before .0 ∙ rw (next, e), omega arith)
+      fresh-unmarked e = (before .0 ∙ rw (next r there, e), omega arith)
 
       module _ (marked : getD (s .fresh) r false ≡ true) (place : ℕ) (at : 17 + s .gives - 1 - r ≡ place) where
         above : length (drop (r + 1) marks) + 17 ≡ place
@@ -134,21 +146,42 @@ module _ (s : Shape) where
         fresh-added h l e =
             let full : ltb (length xs) 8 ≡ true = lt-ltb (length xs) 8 (omega arith) in
             rw (e, full) (
-              before .0 ∙ rw (next, marked, above, lt-ltb place 33 l) (sym (append-assoc xs (place ∷ []) _)),
+              before .0 ∙ rw (next r there, marked, above, lt-ltb place 33 l) (sym (append-assoc xs (place ∷ []) _)),
               rw length-append (omega arith),
             )
 
         pub fresh-past : 33 ≤ place → Placed xs (r + 1)
         unfolding freshPlaces within
-        fresh-past h = (before .0 ∙ rw (next, marked, above, le-ltb place 33 h), omega arith)
+        fresh-past h = (before .0 ∙ rw (next r there, marked, above, le-ltb place 33 h), omega arith)
 
     pub fresh-end : length (s .fresh) ≡ 4 → 4 ≤ r → xs ≡ within (markMoves (viewStep s) 0)
     unfolding within
-    fresh-end size h = sym (before .0 ∙ rw (none-fresh (drop r marks) past) (append-nil xs))
-      where
-        past : (k : ℕ) → getD (drop r marks) k false ≡ false
-        past k = getD-drop r marks k false ∙ go (decLt (r + k) (s .gives))
-          where
-            go : Dec (r + k < s .gives) → getD marks (r + k) false ≡ false
-            go (yes l) = getD-tabulate _ false (s .gives) (r + k) l ∙ List·getD-eq-default (s .fresh) false {n = r + k} (omega arith)
-            go (no l) = List·getD-eq-default marks false {n = r + k} (rw length-tabulate (omega arith))
+    fresh-end size h = sym (before .0 ∙ rw (none-past size r h) (append-nil xs))
+
+  -- no mark is among the first r operands pushed
+  abbrev pub Clear : ℕ → Type 0
+  Clear r = freshPlaces marks ≡ freshPlaces (drop r marks)
+
+  pub clear-start : Clear 0
+  clear-start = refl
+
+  module _ (r : ℕ) (before : Clear r) where
+    pub clear-none : s .gives ≤ r → Clear (r + 1)
+    clear-none h = before ∙ ap freshPlaces (none-left r h ∙ sym (none-left (r + 1) (omega arith)))
+
+    pub clear-unmarked : r < s .gives → getD (s .fresh) r false ≡ false → Clear (r + 1)
+    unfolding freshPlaces
+    clear-unmarked h e = before ∙ rw (next r h, e)
+
+    -- at the first mark, and past the fourth operand
+    pub clear-found : r < s .gives → getD (s .fresh) r false ≡ true → makesNoMark (viewStep s) ≡ false
+    unfolding freshPlaces makesNoMark viewStep none
+    clear-found h e = rw (before, next r h, e) (and-false (leb (s .takes) 16))
+
+    pub clear-end : length (s .fresh) ≡ 4 → 4 ≤ r → s .takes ≤ 16 → makesNoMark (viewStep s) ≡ true
+    unfolding makesNoMark viewStep none
+    clear-end size h few = rw (before, none-past size r h, le-leb (s .takes) 16 few)
+
+  pub clear-many : 16 < s .takes → makesNoMark (viewStep s) ≡ false
+  unfolding makesNoMark viewStep
+  clear-many h = rw (lt-leb (s .takes) 16 h)

@@ -1,2 +1,3 @@
 pub mod Leaks
 pub mod Within
+pub mod Unmarked

@@ -4,6 +4,7 @@ ghost use mathlib.Core.Bool.{true, false, cond, _&&_};
 ghost use Prim.Native.Nat.{ℕ, _+_, _*_, _≤_, _<_};
 ghost use lib.Dec.{eqb};
 ghost use lib.ListN.{length};
+ghost use Rattle.laws.specs.Lists.{every};
 ghost use Rattle.reach.specs.Search.{after, visitAll};
 ghost use Rattle.table.specs.Format.{opCall, opRet};
 ghost use Rattle.table.specs.Rows.{rowAt, rowCount};
@@ -16,6 +17,7 @@ ghost use Rattle.locals.specs.Sets.{contains};
 ghost use Rattle.steps.specs.Steps.{viewStep, stepAt, givenBy};
 ghost use Rattle.leaks.specs.Leaks.{someMarked, marksOf, leakFrom, leakIn, stepsOf};
 ghost use Rattle.leaks.specs.Within.{leaksWithin};
+ghost use Rattle.leaks.specs.Unmarked.{makesNoMark};
 use locals::LocalSet;
 use spread::Moves;
 use steps::Shape;
@@ -202,6 +204,41 @@ fn shapes_of(
     Shapes { at }
 }
 
+// Whether an instruction makes no mark, and takes no more operands than have a place.
+fn makes_no_mark(s: Shape) -> bool
+    ensures { λ r. ⌜ r ≡ makesNoMark (viewStep s) ⌝ }
+{
+    if 16 < s.takes {
+        return false;
+    }
+    let mut r = 0;
+    while r < 4 {
+        if r < s.gives as usize {
+            if s.fresh[r] {
+                return false;
+            }
+        }
+        r += 1;
+    }
+    true
+}
+
+// Whether each of the first n instructions is such a one.
+fn no_marks_made(shapes: Shapes, n: usize) -> bool
+    requires { ⌜ n ≤ 256 ⌝ }
+    ensures { λ r. ⌜ r ≡ every (λ (i : ℕ). makesNoMark (stepsOf shapes i)) n ⌝ }
+{
+    let mut k = 0;
+    while k < n {
+        let shape = shapes.at[k];
+        if !makes_no_mark(shape) {
+            return false;
+        }
+        k += 1;
+    }
+    true
+}
+
 // Whether some one of the first `count` operands is marked on arriving at instruction i.
 fn some_marked(nodes: &[bool], i: usize, count: usize) -> bool
     requires { ⌜ (i < 256) × (count < 65536) ⌝ }
@@ -256,8 +293,8 @@ fn judge_code(nodes: &[bool], shapes: Shapes, own: ProcedureEntry, n: usize) -> 
     Verdict::Accepted(n)
 }
 
-// One procedure of a trusted module; one over a limit is passed over. `nodes` and `queue` are room to work in, `results` has which
-// procedure's results are given as marked.
+// One procedure of a trusted module; one over a limit is passed over, and one in which no mark is made is not searched. `nodes` and `queue` are room
+// to work in, `results` has which procedure's results are given as marked.
 fn judge_procedure(
     table: &[u8],
     code: &[u8],
@@ -277,8 +314,11 @@ fn judge_procedure(
     if n == 0 {
         return Verdict::Accepted(0);
     }
-    let params = steps::parameters_of(table, own) as usize;
     let shapes = shapes_of(table, code, results, own, index);
+    if no_marks_made(shapes, n) {
+        return Verdict::Accepted(n);
+    }
+    let params = steps::parameters_of(table, own) as usize;
     let end = 33 * n;
     spread_marks(
         &mut nodes[..end],

@@ -1,16 +1,19 @@
-use Prim.Native.Nat.{_*_, _≤_}
+use Prim.Native.Nat.{ℕ, _*_, _≤_}
 use mathlib.Core.Path.{_≡_, sym, ap, _∙_}
 use mathlib.Core.List.{_++_}
 use native.Mathlib.Omega.{arith}
 use borrow.Author.Needs.{needs}
+use mathlib.Core.Bool.{false}
 use lib.Seq.{length-take-le, take-at}
 use lib.ListN.{length, take, drop}
 use Rattle.laws.specs.First.{firstFault}
 use Rattle.table.specs.Rows.{rowCount}
 use Rattle.program.specs.Program.{codeVerdict}
+use Rattle.program.specs.Limits.{overLimits}
 use Rattle.program.proofs.Laws.{limits-held, limited-in, limited-out}
 use Rattle.locals.specs.Locals.{parameterCount}
 use Rattle.leaks.proofs.Laws.{procedure-verdict, parameters-fit}
+use Rattle.leaks.proofs.Unmarked.{unmarked-verdict}
 use Rattle.leaks.proofs.judge_procedure.Statement.{statement}
 use Rattle.leaks.proofs.judge_procedure.Tie as tie
 
@@ -24,47 +27,76 @@ returns-2 : tie.Need-returns-2
 unfolding codeVerdict firstFault
 returns-2 c = rw (c .if2 .taken)
 
+-- past the tests the procedure has code, and is not over a limit
+abbrev start : tie.Else2 → tie.Start
+start c = c .before .before .before .before .before .before .before .before
+
+in-limits : (c : tie.Else2) → overLimits (start c .args .table .now) (start c .args .own) ≡ false
+in-limits c = sym (c .before .before .over-limits .ensures) ∙ c .before .if1 .left
+
+limits : (c : tie.Else2) → (parameterCount (start c .args .table .now) (start c .args .own) ≤ 16) × (rowCount (start c .args .code .now) ≤ 256)
+limits c = let held = limits-held _ (start c .args .own) (in-limits c) in (parameters-fit _ _ (held .0), rw (start c .pre .0) (held .1))
+
+shapes-of-requires : tie.Need-shapes-of-requires
+shapes-of-requires c κs = (start c .pre .0, limits c .1)
+
+no-marks-made-requires : tie.Need-no-marks-made-requires
+no-marks-made-requires c κs = limits (c .before) .1
+
+returns-3 : tie.Need-returns-3
+returns-3 c =
+    let k = c .before .before .before in
+    rw (limited-in _ (start k .args .own) _ (in-limits k))
+    (unmarked-verdict (start k .args .table .now) (start k .args .code .now) (start k .args .index) (start k .args .results .now) (start k .args .own) _ (start k .pre .0) (omega arith) (c .before .before .shapes-of .ensures) (sym (c .before .no-marks-made .ensures) ∙ c .if3 .taken))
+
 parameters-of-requires : tie.Need-parameters-of-requires
 parameters-of-requires c κs = search needs
 
 cast-params : tie.Need-cast-params
 cast-params c = search needs
 
--- past the test the procedure is within the limits
-limits : (c : tie.After-parameters-of) → (parameterCount (c .before .before .before .before .before .before .before .before .before .args .table .now) (c .before .before .before .before .before .before .before .before .before .args .own) ≤ 16) × (rowCount (c .before .before .before .before .before .before .before .before .before .args .code .now) ≤ 256)
-limits c = let held = limits-held _ (c .before .before .before .before .before .before .before .before .before .args .own) (sym (c .before .before .before .over-limits .ensures) ∙ c .before .before .if1 .left) in (parameters-fit _ _ (held .0), rw (c .before .before .before .before .before .before .before .before .before .pre .0) (held .1))
+-- what is known before the search, and the number of places
+abbrev known : tie.After-parameters-of → tie.Else2
+known c = c .before .before .before .before
 
-shapes-of-requires : tie.Need-shapes-of-requires
-shapes-of-requires c κs = (c .before .before .before .before .before .before .before .before .before .pre .0, limits c .1)
+abbrev places : tie.After-parameters-of → ℕ
+places c = 33 * rowCount (start (known c) .args .code .now)
+
+-- the room that is lent has a part for each place
+room : (c : tie.After-parameters-of) → length (take (places c) (start (known c) .args .nodes .now)) ≡ places c
+room c = length-take-le (places c) (start (known c) .args .nodes .now) (omega (arith, limits (known c)))
 
 mul-end : tie.Need-mul-end
-mul-end c = omega (arith, limits (c .before))
+mul-end c = omega (arith, limits (known c))
 
 slice-relend-prefix-spread-marks : tie.Need-slice-relend-prefix-spread-marks
-slice-relend-prefix-spread-marks c = omega (arith, limits (c .before))
+slice-relend-prefix-spread-marks c = omega (arith, limits (known c))
 
 slice-aggregate-spread-marks : tie.Need-slice-aggregate-spread-marks
-slice-aggregate-spread-marks c = sym (length-take-le (33 * rowCount (c .before .before .before .before .before .before .before .before .before .before .before .args .code .now)) (c .before .before .before .before .before .before .before .before .before .before .before .args .nodes .now) (omega (arith, limits (c .before .before))))
+slice-aggregate-spread-marks c = sym (room (c .before))
 
 spread-marks-requires : tie.Need-spread-marks-requires
 unfolding parameterCount
-spread-marks-requires c κs = (length-take-le (33 * rowCount (c .before .before .before .before .before .before .before .before .before .before .before .before .args .code .now)) (c .before .before .before .before .before .before .before .before .before .before .before .before .args .nodes .now) (omega (arith, limits (c .before .before .before))), omega arith, omega arith, limits (c .before .before .before) .1, omega (arith, limits (c .before .before .before), c .before .before .before .parameters-of .ensures))
+spread-marks-requires c κs = let held = limits (known (c .before .before)) in (room (c .before .before), omega arith, omega arith, held .1, omega (arith, held, c .before .before .parameters-of .ensures))
 
 slice-reshare-prefix-judge-code : tie.Need-slice-reshare-prefix-judge-code
-slice-reshare-prefix-judge-code c = omega (arith, limits (c .before .before .before .before .before .before .before .before))
+slice-reshare-prefix-judge-code c = omega (arith, limits (known (c .before .before .before .before .before .before .before)))
 
--- the room that the marks are found in has a part for each place
-marked : (c : tie.After-spread-marks) → length (c .spread-marks .last .0) ≡ 33 * rowCount (c .before .before .before .before .before .before .before .before .before .before .before .before .before .args .code .now)
-marked c = c .spread-marks .kept .0 ∙ length-take-le (33 * rowCount (c .before .before .before .before .before .before .before .before .before .before .before .before .before .args .code .now)) (c .before .before .before .before .before .before .before .before .before .before .before .before .before .args .nodes .now) (omega (arith, limits (c .before .before .before .before)))
+-- so it has once the marks are found in it
+abbrev searched : tie.After-spread-marks → tie.After-parameters-of
+searched c = c .before .before .before
 
-filled : (c : tie.After-spread-marks) → take (33 * rowCount (c .before .before .before .before .before .before .before .before .before .before .before .before .before .args .code .now)) (c .spread-marks .last .0 ++ drop (33 * rowCount (c .before .before .before .before .before .before .before .before .before .before .before .before .before .args .code .now)) (c .before .before .before .before .before .before .before .before .before .before .before .before .before .args .nodes .now)) ≡ c .spread-marks .last .0
-filled c = take-at (c .spread-marks .last .0) _ (33 * rowCount (c .before .before .before .before .before .before .before .before .before .before .before .before .before .args .code .now)) (marked c)
+marked : (c : tie.After-spread-marks) → length (c .spread-marks .last .0) ≡ places (searched c)
+marked c = c .spread-marks .kept .0 ∙ room (searched c)
+
+filled : (c : tie.After-spread-marks) → take (places (searched c)) (c .spread-marks .last .0 ++ drop (places (searched c)) (start (known (searched c)) .args .nodes .now)) ≡ c .spread-marks .last .0
+filled c = take-at (c .spread-marks .last .0) _ (places (searched c)) (marked c)
 
 slice-aggregate-judge-code : tie.Need-slice-aggregate-judge-code
-slice-aggregate-judge-code c = sym (ap length (filled (c .before .before .before .before .before)) ∙ marked (c .before .before .before .before .before))
+slice-aggregate-judge-code c = let s = c .before .before .before .before .before in sym (ap length (filled s) ∙ marked s)
 
 judge-code-requires : tie.Need-judge-code-requires
-judge-code-requires c κs = omega (arith, limits (c .before .before .before .before .before .before .before .before .before))
+judge-code-requires c κs = omega (arith, limits (known (searched (c .before .before .before .before .before))))
 
 same-length : tie.Need-same-length
 same-length c = search needs
@@ -72,10 +104,16 @@ same-length c = search needs
 same-length-2 : tie.Need-same-length-2
 same-length-2 c = search needs
 
-returns-3 : tie.Need-returns-3
-returns-3 c =
-    rw (limited-in _ (c .before .before .before .before .before .before .before .before .before .before .before .before .before .before .before .before .before .before .before .args .own) _ (sym (c .before .before .before .before .before .before .before .before .before .before .before .before .before .over-limits .ensures) ∙ c .before .before .before .before .before .before .before .before .before .before .before .before .if1 .left))
-    (procedure-verdict (c .before .before .before .before .before .before .before .before .before .before .before .before .before .before .before .before .before .before .before .args .table .now) (c .before .before .before .before .before .before .before .before .before .before .before .before .before .before .before .before .before .before .before .args .code .now) (c .before .before .before .before .before .before .before .before .before .before .before .before .before .before .before .before .before .before .before .args .index) (c .before .before .before .before .before .before .before .before .before .before .before .before .before .before .before .before .before .before .before .args .results .now) (c .before .before .before .before .before .before .before .before .before .before .before .before .before .before .before .before .before .before .before .args .own) _ _ _ _ (c .before .before .before .before .before .before .before .before .before .before .before .before .before .before .before .before .before .before .before .pre .0) (c .before .before .before .before .before .before .before .before .before .before .parameters-of .ensures) (c .before .before .before .before .before .before .before .before .before .shapes-of .ensures) (filled (c .before .before .before .before .before .before) ∙ c .before .before .before .before .before .before .spread-marks .ensures) (c .judge-code .ensures))
+abbrev spread : tie.After-judge-code → tie.After-spread-marks
+spread c = c .before .before .before .before .before .before
+
+abbrev tested : tie.After-judge-code → tie.Else2
+tested c = known (searched (spread c))
+
+returns-4 : tie.Need-returns-4
+returns-4 c =
+    rw (limited-in _ (start (tested c) .args .own) _ (in-limits (tested c)))
+    (procedure-verdict (start (tested c) .args .table .now) (start (tested c) .args .code .now) (start (tested c) .args .index) (start (tested c) .args .results .now) (start (tested c) .args .own) _ _ _ _ (start (tested c) .pre .0) (searched (spread c) .parameters-of .ensures) (searched (spread c) .before .before .before .shapes-of .ensures) (filled (spread c) ∙ spread c .spread-marks .ensures) (c .judge-code .ensures))
 
 pub judge-procedure-spec : {M : Type 1} → statement M
 judge-procedure-spec =
@@ -84,9 +122,11 @@ judge-procedure-spec =
     over-limits-requires
     returns
     returns-2
+    shapes-of-requires
+    no-marks-made-requires
+    returns-3
     parameters-of-requires
     cast-params
-    shapes-of-requires
     mul-end
     slice-relend-prefix-spread-marks
     slice-aggregate-spread-marks
@@ -96,4 +136,4 @@ judge-procedure-spec =
     judge-code-requires
     same-length
     same-length-2
-    returns-3)
+    returns-4)
