@@ -178,9 +178,9 @@ marks-same next step other given params n h = iter-same _ _ (33 * n) first same
 pub fault-is :
     (nodes : List Bool) (shapes : Shapes) (shape : Shape) (i : ℕ) {f : ℕ}
     → shape ≡ getD (shapes .at) i noShape
-    → f ≡ cond (eqb (shape .opcode) 15 && someMarked nodes i (shape .takes)) 13 (cond (eqb (shape .opcode) 16 && someMarked nodes i (shape .takes)) 14 0)
+    → f ≡ leakIn nodes (viewStep shape) i
     → leakIn nodes (stepsOf shapes i) i ≡ f
-unfolding leakIn stepsOf viewStep
+unfolding stepsOf
 fault-is nodes shapes shape i e h = rw (← e) (sym h)
 
 -- Where no local is in the set, and no result in the list, nothing is given as marked.

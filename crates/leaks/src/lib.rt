@@ -6,7 +6,6 @@ ghost use lib.Dec.{eqb};
 ghost use lib.ListN.{length};
 ghost use Rattle.laws.specs.Lists.{every};
 ghost use Rattle.reach.specs.Search.{after, visitAll};
-ghost use Rattle.table.specs.Format.{opCall, opRet};
 ghost use Rattle.table.specs.Rows.{rowAt, rowCount};
 ghost use Rattle.program.specs.Program.{codeOf, codeVerdict};
 ghost use Rattle.program.specs.Limits.{limited};
@@ -260,7 +259,7 @@ fn some_marked(nodes: &[bool], i: usize, count: usize) -> bool
 // The number that an instruction earns, or 0.
 fn fault_at(nodes: &[bool], shape: Shape, i: usize) -> u8
     requires { ⌜ i < 256 ⌝ }
-    ensures { λ r. ⌜ r ≡ cond (eqb (shape .opcode) opCall && someMarked (now (nodes .entry)) i (shape .takes)) 13 (cond (eqb (shape .opcode) opRet && someMarked (now (nodes .entry)) i (shape .takes)) 14 0) ⌝ }
+    ensures { λ r. ⌜ r ≡ leakIn (now (nodes .entry)) (viewStep shape) i ⌝ }
 {
     if shape.opcode == format::CALL {
         if some_marked(nodes, i, shape.takes as usize) {

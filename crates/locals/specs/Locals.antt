@@ -3,6 +3,7 @@ use Prim.Native.Nat.{ℕ, zero, suc, _+_, _-_}
 use mathlib.Core.Bool.{Bool, false, cond, _&&_, _||_}
 use mathlib.Core.List.{List, []}
 use lib.Dec.{eqb, ltb}
+use Rattle.table.specs.declared.Row.{Row}
 use Rattle.table.specs.declared.Verdict.{Verdict}
 use Rattle.table.specs.declared.index.ProcedureEntry.{ProcedureEntry}
 use Rattle.table.specs.Format.{opMvLoc, opCpLoc, opStLoc, opBorrowLoc, opRet}
@@ -13,8 +14,11 @@ use Rattle.flow.specs.Steps.{Step, nexts}
 use Rattle.flow.specs.Places.{localNodes, canBeEmpty, canBeFull}
 
 -- what locals depend on: opcode and operand
+abbrev pub rowStep : Row → Step
+rowStep row = record { opcode = row .a; operand = row .b; takes = 0; fresh = [] }
+
 abbrev pub bareStep : List ℕ → ℕ → Step
-bareStep c i = record { opcode = rowAt c i .a; operand = rowAt c i .b; takes = 0; fresh = [] }
+bareStep c i = rowStep (rowAt c i)
 
 -- the number of parameters
 unfoldable pub parameterCount : List ℕ → ProcedureEntry → ℕ

@@ -1,18 +1,17 @@
 // The locals pass: refusals 11 and 12.
 ghost use mathlib.Core.Path.{_≡_};
-ghost use mathlib.Core.Bool.{false, cond, not, _&&_};
+ghost use mathlib.Core.Bool.{false, not, _&&_};
 ghost use Prim.Native.Nat.{ℕ, _+_, _*_, _≤_, _<_};
-ghost use lib.Dec.{eqb, ltb};
+ghost use lib.Dec.{ltb};
 ghost use lib.ListN.{length, take, drop};
 ghost use Rattle.reach.specs.Search.{after, visitAll};
-ghost use Rattle.table.specs.Format.{opMvLoc, opStLoc};
 ghost use Rattle.table.specs.Rows.{rowAt, rowCount};
 ghost use Rattle.program.specs.Program.{isRecord, localKind, codeOf, codeVerdict};
 ghost use Rattle.program.specs.Limits.{limited};
 ghost use Rattle.flow.specs.Steps.{nexts};
-ghost use Rattle.flow.specs.Places.{succs, localMoves, startStatus};
+ghost use Rattle.flow.specs.Places.{succs, statusAfter, localMoves, startStatus};
 ghost use Rattle.locals.specs.Sets.{inserted, contains, those};
-ghost use Rattle.locals.specs.Locals.{bareStep, parameterCount, needsFull, nodesOf, localFault};
+ghost use Rattle.locals.specs.Locals.{rowStep, bareStep, parameterCount, needsFull, nodesOf, localFault};
 ghost use Rattle.locals.specs.Faults.{emptyAt, fullAt, recordAt, someRecord, faultFrom};
 ghost use Rattle.locals.specs.Within.{localsWithin};
 use spread::Moves;
@@ -50,7 +49,7 @@ impl LocalSet {
 
 // The status of local l after an instruction: 0 full, 1 empty.
 fn status_after(row: Row, l: usize, x: usize) -> usize
-    ensures { λ r. ⌜ r ≡ cond (eqb (row .b) l) (cond (eqb (row .a) opMvLoc) 1 (cond (eqb (row .a) opStLoc) 0 x)) x ⌝ }
+    ensures { λ r. ⌜ r ≡ statusAfter (rowStep row) l x ⌝ }
 {
     if row.b as usize != l {
         return x;

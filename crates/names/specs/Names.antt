@@ -30,11 +30,15 @@ names =
     -- Call, Ret, Branch, BranchCond, Op
     ∷ procedureNumber ∷ nothing ∷ target ∷ target ∷ nothing ∷ []
 
+-- whether field b % 8 of type b / 8, which is y, does not exist, where there are so many types
+abbrev pub noSuchField : ℕ → TypeEntry → ℕ → Bool
+noSuchField types y b = leb types (b / 8) || leb (fieldCount y) (b % 8)
+
 -- whether what b names does not exist in procedure p, where there are so many types and procedures, and y is type b / 8
 unfoldable pub missing : ℕ → ℕ → TypeEntry → ProcedureEntry → ℕ → Named → Bool
 missing types procedures y p b nothing = false
 missing types procedures y p b localNumber = leb (localCount p) b
-missing types procedures y p b fieldNumber = leb types (b / 8) || leb (fieldCount y) (b % 8)
+missing types procedures y p b fieldNumber = noSuchField types y b
 missing types procedures y p b typeNumber = leb types b
 missing types procedures y p b procedureNumber = leb procedures b
 missing types procedures y p b target = leb (codeLength p) b

@@ -7,7 +7,7 @@ ghost use lib.ListN.{getD};
 ghost use mathlib.Core.Bool.{_&&_};
 ghost use Rattle.table.specs.Format.{procedureKind};
 ghost use Rattle.program.specs.Program.{fieldCount};
-ghost use Rattle.names.specs.Names.{namesOf, namesWith, badEnd, hasType, notLower, noSuchType, noSuchName, names, nothing, missing, nameFault};
+ghost use Rattle.names.specs.Names.{namesOf, namesWith, badEnd, hasType, notLower, noSuchType, noSuchName, names, nothing, noSuchField, missing, nameFault};
 use table::Row;
 use table::Verdict;
 use table::format;
@@ -71,7 +71,7 @@ fn bad_declared(row: Row, types: usize) -> bool
 
 // 6: field b % 8 of type b / 8, whose entry is y.
 fn bad_field_number(types: usize, y: TypeEntry, b: u16) -> bool
-    ensures { λ r. ⌜ r ≡ (leb types (b / 8) || leb (fieldCount y) (b % 8)) ⌝ }
+    ensures { λ r. ⌜ r ≡ noSuchField types y b ⌝ }
 {
     if types <= (b / 8) as usize {
         return true;

@@ -26,10 +26,13 @@ endsBlock op = leb opRet op && leb op opBranchCond
 unfoldable pub lastOfBlock : List ℕ → ℕ → Bool
 lastOfBlock c i = leb (rowCount c) (i + 1) || endsBlock (rowAt c i .a) || isTarget c (i + 1)
 
--- 10: a type, or a private procedure, of another module
+-- 10: a type of another module; a type, or a private procedure, of another module
+abbrev pub foreignType : ℕ → TypeEntry → ProcedureEntry → Bool
+foreignType op named own = leb opBorrowFld op && leb op opExists && not (eqb (named .owner) (own .owner))
+
 unfoldable pub foreign : List ℕ → ProcedureEntry → TypeEntry → ProcedureEntry → Row → Bool
 foreign t own named callee row =
-    (leb opBorrowFld (row .a) && leb (row .a) opExists && not (eqb (named .owner) (own .owner)))
+    foreignType (row .a) named own
     || (eqb (row .a) opCall && not (eqb (rowAt t (callee .row) .a) 1) && not (eqb (callee .owner) (own .owner)))
 
 -- of procedure p, whose code is c, in a table with this index

@@ -3,10 +3,10 @@ ghost use mathlib.Core.Path.{_≡_};
 ghost use Prim.Native.Nat.{_+_, _/_, _<_};
 ghost use mathlib.Core.Bool.{true, false, cond, not, _&&_, _||_};
 ghost use lib.Dec.{eqb, leb};
-ghost use Rattle.table.specs.Format.{opBorrowFld, opExists, opBranch, opBranchCond};
+ghost use Rattle.table.specs.Format.{opBorrowFld, opBranch, opBranchCond};
 ghost use Rattle.table.specs.Rows.{rowCount};
 ghost use Rattle.program.specs.Program.{jumpsTo, isTarget, targetMarks, Marked, codeOf, codeVerdict};
-ghost use Rattle.operands.specs.Operands.{foreign, endsBlock, codeFault, operandsWith, operandsOf};
+ghost use Rattle.operands.specs.Operands.{foreignType, foreign, endsBlock, codeFault, operandsWith, operandsOf};
 use kinds::Stack;
 use table::Row;
 use table::Verdict;
@@ -17,7 +17,7 @@ use table::index::TypeEntry;
 
 // 10: a type of another module.
 fn foreign_type(opcode: u8, named: TypeEntry, own: ProcedureEntry) -> bool
-    ensures { λ r. ⌜ r ≡ (leb opBorrowFld opcode && leb opcode opExists && not (eqb (named .owner) (own .owner))) ⌝ }
+    ensures { λ r. ⌜ r ≡ foreignType opcode named own ⌝ }
 {
     if opcode < format::BORROW_FLD {
         return false;

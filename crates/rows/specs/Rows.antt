@@ -151,13 +151,23 @@ dirty used x = not used && not (eqb x 0)
 unfoldable pub unusedByte : Row → Bool
 unusedByte row = dirty (usesA row) (row .a) || dirty (usesB row) (row .b) || dirty (usesC row) (row .c) || dirty (usesD row) (row .d)
 
+-- C over 1; a parameter after another local; Op over 3
+abbrev pub badC : Row → Bool
+badC row = usesC row && ltb 1 (row .c)
+
+abbrev pub lateParameter : Above → Row → Bool
+lateParameter s row = eqb (row .kind) localKind && eqb (row .c) 1 && s .other
+
+abbrev pub badOp : Row → Bool
+badOp row = eqb (row .kind) instructionKind && eqb (row .a) opOp && ltb 3 (row .b)
+
 -- 4: a value not allowed: A past its values, C over 1, a parameter after another local, Op over 3
 unfoldable pub badValue : Above → Row → Bool
 badValue s row =
     (usesA row && leb (useOf (row .kind) .values) (row .a))
-    || (usesC row && ltb 1 (row .c))
-    || (eqb (row .kind) localKind && eqb (row .c) 1 && s .other)
-    || (eqb (row .kind) instructionKind && eqb (row .a) opOp && ltb 3 (row .b))
+    || badC row
+    || lateParameter s row
+    || badOp row
 
 -- 4: a guard misplaced: only number fields of trusted modules may be guarded
 unfoldable pub badGuard : Above → Row → Bool

@@ -3,8 +3,7 @@ ghost use mathlib.Core.Path.{_≡_};
 ghost use mathlib.Core.Bool.{not, _&&_};
 ghost use lib.Dec.{eqb, leb, ltb};
 ghost use Prim.Native.Nat.{_<_};
-ghost use Rattle.table.specs.Format.{localKind, instructionKind, opOp};
-ghost use Rattle.rows.specs.Rows.{lengthOf, rowsOf, formOf, countOf, belowRow, misplaced, tooMany, usesA, usesB, usesC, usesD, dirty, unusedByte, badValue, badGuard, rowFault, useOf, usedWith};
+ghost use Rattle.rows.specs.Rows.{lengthOf, rowsOf, formOf, countOf, belowRow, misplaced, tooMany, usesA, usesB, usesC, usesD, dirty, badC, lateParameter, badOp, unusedByte, badValue, badGuard, rowFault, useOf, usedWith};
 use table::Row;
 use table::Verdict;
 use table::format;
@@ -140,7 +139,7 @@ impl Above {
 
     // 4: a parameter after another local.
     fn late_parameter(self, row: Row) -> bool
-        ensures { λ r. ⌜ r ≡ (eqb (row .kind) localKind && eqb (row .c) 1 && self .other) ⌝ }
+        ensures { λ r. ⌜ r ≡ lateParameter self row ⌝ }
     {
         if row.kind == format::LOCAL {
             if row.c == 1 {
@@ -318,7 +317,7 @@ fn bad_a(row: Row) -> bool
 
 // 4: a mark in C that is neither 0 nor 1.
 fn bad_c(row: Row) -> bool
-    ensures { λ r. ⌜ r ≡ (usesC row && ltb 1 (row .c)) ⌝ }
+    ensures { λ r. ⌜ r ≡ badC row ⌝ }
 {
     if uses_c(row) {
         return 1 < row.c;
@@ -328,7 +327,7 @@ fn bad_c(row: Row) -> bool
 
 // 4: an Op over 3.
 fn bad_op(row: Row) -> bool
-    ensures { λ r. ⌜ r ≡ (eqb (row .kind) instructionKind && eqb (row .a) opOp && ltb 3 (row .b)) ⌝ }
+    ensures { λ r. ⌜ r ≡ badOp row ⌝ }
 {
     if row.kind == format::INSTRUCTION {
         if row.a == format::OP {
