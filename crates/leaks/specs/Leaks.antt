@@ -17,9 +17,12 @@ use Rattle.locals.specs.Locals.{parameterCount}
 use Rattle.steps.specs.Steps.{Given, nothingGiven, stepAt, viewStep, noShape}
 use Rattle.leaks.specs.declared.Shapes.{Shapes}
 
--- whether a procedure stands in a trusted module
+-- whether the module at a row is trusted, and whether a procedure stands in such a one
+abbrev pub trustedAt : List ℕ → ℕ → Bool
+trustedAt t row = eqb (rowAt t row .a) 1
+
 unfoldable pub inTrusted : List ℕ → Index → ProcedureEntry → Bool
-inTrusted t ix p = eqb (rowAt t (getD (ix .«module_rows») (p .owner) 0) .a) 1
+inTrusted t ix p = trustedAt t (getD (ix .«module_rows») (p .owner) 0)
 
 -- whether some one of the first n operands is marked on arriving at instruction i, on some walk
 unfoldable pub someMarked : List Bool → ℕ → ℕ → Bool

@@ -14,7 +14,7 @@ ghost use Rattle.flow.specs.Places.{markPlaces, succs, markMoves, within, markN
 ghost use Rattle.spread.specs.Moves.{placesOf};
 ghost use Rattle.locals.specs.Sets.{contains};
 ghost use Rattle.steps.specs.Steps.{viewStep, stepAt, givenBy};
-ghost use Rattle.leaks.specs.Leaks.{someMarked, marksOf, leakFrom, leakIn, stepsOf};
+ghost use Rattle.leaks.specs.Leaks.{trustedAt, someMarked, marksOf, leakFrom, leakIn, stepsOf};
 ghost use Rattle.leaks.specs.Within.{leaksWithin};
 ghost use Rattle.leaks.specs.Unmarked.{makesNoMark};
 use locals::LocalSet;
@@ -332,7 +332,7 @@ fn judge_procedure(
 
 // Whether a module, whose row is `row`, is trusted.
 fn is_trusted(table: &[u8], row: u16) -> bool
-    ensures { λ r. ⌜ r ≡ eqb (rowAt (now (table .entry)) row .a) 1 ⌝ }
+    ensures { λ r. ⌜ r ≡ trustedAt (now (table .entry)) row ⌝ }
 {
     table::row_at(table, row as usize).a == 1
 }
