@@ -231,7 +231,7 @@ pub fn speed() {
         let (work, setting, rows, ratio) = (work.name(), setting.name(), course.table.len() / 16, proved / plain);
         println!(
             "{work:22} {setting:12} {rows:>6} {records:>8} {entries:>8} {frames:>7} \
-             {proved:>10.1} {plain:>9.1} {ratio:>7.1}"
+             {proved:>10.1} {plain:>9.1} {ratio:>7.2}"
         );
     }
 }

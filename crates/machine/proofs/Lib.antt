@@ -4,3 +4,4 @@ pub mod Simulates
 pub mod Runs
 pub mod Lists
 pub mod Views
+pub mod Memory

@@ -29,9 +29,9 @@ use Rattle.rules.proofs.Steps.{StateOk, DidAt}
 use Rattle.rules.proofs.Invariant.{BaseOk, call-run, nothing-ok, begin-ok, buried-count, buried-dead}
 use Rattle.rules.proofs.Ends.{ends, last-append, last-quiet, Quiet, go-quiet}
 use Rattle.rules.proofs.Callable.{good-calls}
-use Rattle.cells.specs.declared.Reference.{Reference}
-use Rattle.cells.specs.declared.Operand.{Operand}
-use Rattle.cells.specs.declared.Operand.the-variants.{Empty, Number, Record, Refer}
+use Rattle.state.specs.declared.Reference.{Reference}
+use Rattle.state.specs.declared.Operand.{Operand}
+use Rattle.state.specs.declared.Operand.the-variants.{Empty, Number, Record, Refer}
 use Rattle.machine.specs.Machine.{MFrame, mframe, MRoom, mroom, MEntry, mentry, MState, mstate, MOutcome, mnext, mfinished, mstopped, mbroken, roomOf}
 use Rattle.machine.specs.Represents.{Shows, empty, number, whole, toALocal, toAField, toARecord, ShowsAll, no-more, and, ShowsLocals, no-local, and-local, ShowsFrames, no-frame, and-frame, ShowsStore, no-entry, and-entry, ShowsRooms, usedCount, Represents, BaseShown, SameOutcome, goes-on, stops, never}
 use Rattle.machine.specs.Runs.{MEnd, mend, mrow, mgo}

@@ -22,7 +22,7 @@ use Rattle.rules.proofs.Changes.{clash}
 use Rattle.rules.proofs.Typing.{_⊑_}
 use Rattle.rules.proofs.Running.{OutcomeOk}
 use Rattle.rules.proofs.Steps.{StateOk, DidAt, step-ok}
-use Rattle.cells.specs.declared.Operand.{Operand}
+use Rattle.state.specs.declared.Operand.{Operand}
 use Rattle.machine.specs.Machine.{MFrame, mframe, MRoom, MEntry, MState, mstate, MOutcome, mnext, mfinished, mstopped, mbroken, topmost, doings}
 use Rattle.machine.specs.Represents as Rep
 use Rattle.machine.specs.Represents.{ShowsAll, ShowsFrames, and-frame, Represents, BaseShown, SameOutcome, goes-on, ends, stops, never}

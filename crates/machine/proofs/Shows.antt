@@ -13,10 +13,10 @@ use Rattle.rules.specs.Machine.{Value, num, obj, toLocal, toField, toRecord, Ce
 use Rattle.rules.specs.Step.{pushedOn, startLocals}
 use Rattle.rules.proofs.Changes.{clash}
 use Rattle.rules.proofs.Typing.{_⊑_}
-use Rattle.cells.specs.declared.Reference.{Reference}
-use Rattle.cells.specs.declared.Reference.the-variants.{Local, Field, Record as Whole}
-use Rattle.cells.specs.declared.Operand.{Operand}
-use Rattle.cells.specs.declared.Operand.the-variants.{Empty, Number, Record, Refer}
+use Rattle.state.specs.declared.Reference.{Reference}
+use Rattle.state.specs.declared.Reference.the-variants.{Local, Field, Record as Whole}
+use Rattle.state.specs.declared.Operand.{Operand}
+use Rattle.state.specs.declared.Operand.the-variants.{Empty, Number, Record, Refer}
 use Rattle.machine.specs.Machine as M
 use Rattle.machine.specs.Machine.{MFrame, mframe, MRoom, mroom, MEntry, mentry, MTarget, mNumber, mRecord, mStale, mWrong, backTo, held, roomOf, localAt, putAt, findEntry, dropEntry, inRoom, inOperand, fieldIn, leads}
 use Rattle.machine.specs.Represents.{Shows, empty, number, whole, toALocal, toAField, toARecord, ShowsAll, no-more, and, ShowsLocals, no-local, and-local, ShowsFrames, no-frame, and-frame, ShowsStore, no-entry, and-entry, ShowsRooms}

@@ -1,5 +1,5 @@
 -- The machine's instruction does what the rules' does.
-use Prim.Native.Nat.{ℕ, zero, suc, _+_, _-_, _/_, _%_, _<_, _≤_}
+use Prim.Native.Nat.{ℕ, zero, suc, _+_, _/_, _%_, _<_, _≤_}
 use mathlib.Core.Path.{_≡_, refl, ap, sym, _∙_}
 use mathlib.Core.Bool.{Bool, true, false, cond, _&&_, true≢false}
 use mathlib.Core.List.{List, [], _∷_, _++_}
@@ -7,19 +7,22 @@ use mathlib.Core.Option.{Option, none, some}
 use mathlib.Core.Logic.{_⊎_, inl, inr, ⊎-elim}
 use native.Mathlib.Omega.{arith}
 use borrow.Author.Tests.{ltb-true, ltb-false, lt-ltb, le-ltb}
-use lib.Dec.{eqb, ltb, leb}
+use lib.Dec.{eqb, ltb}
 use lib.ListN.{length, getD, set, take, drop, replicate, length-append, getElem? as nth}
+use Rattle.arithmetic.specs.declared.Calculated.{Calculated}
+use Rattle.arithmetic.specs.declared.Calculated.the-variants.{Value as Gives, OutOfRange, Unknown}
+use Rattle.arithmetic.specs.Arithmetic.{calculation}
 use Rattle.rules.specs.Machine as Rules
 use Rattle.rules.specs.Machine.{Value, num, obj, toLocal, toField, toRecord, Cell, gone, here, Entry, entry, Frame, frame, State, state, Outcome, next, finished, stopped, stuck, content, localOf, findKey, dropKey, liveCount, Target, aNumber, aRecord, stale, wrong, inCell, target, writeFrames, writeRecords}
-use Rattle.rules.specs.Step.{pushedOn, Taken, missing, took, alsoTaken, taken, one, two, withNumber, withRecord, numberAt, recordAt, fieldsAt, withLocal, isObject, fillable, noneHeld, nothingUnder, fieldReference, underKey, truth, startLocals, returned, push, pushAndSet, pushWithRecords, pushWithStore, goTo, lead, calculations, actions}
+use Rattle.rules.specs.Step.{pushedOn, Taken, missing, took, alsoTaken, taken, one, two, withNumber, withRecord, numberAt, recordAt, fieldsAt, withLocal, isObject, fillable, noneHeld, nothingUnder, fieldReference, underKey, startLocals, returned, push, pushAndSet, pushWithRecords, pushWithStore, goTo, lead, calculated, actions}
 use Rattle.rules.proofs.Changes.{clash}
 use Rattle.rules.proofs.Typing.{_⊑_, snoc-more, snoc-last}
-use Rattle.cells.specs.declared.Reference.{Reference}
-use Rattle.cells.specs.declared.Reference.the-variants.{Local, Field, Record as Whole}
-use Rattle.cells.specs.declared.Operand.{Operand}
-use Rattle.cells.specs.declared.Operand.the-variants.{Empty, Number, Record, Refer}
+use Rattle.state.specs.declared.Reference.{Reference}
+use Rattle.state.specs.declared.Reference.the-variants.{Local, Field, Record as Whole}
+use Rattle.state.specs.declared.Operand.{Operand}
+use Rattle.state.specs.declared.Operand.the-variants.{Empty, Number, Record, Refer}
 use Rattle.machine.specs.Machine as M
-use Rattle.machine.specs.Machine.{MFrame, mframe, MRoom, mroom, MEntry, mentry, MState, mstate, MOutcome, mnext, mfinished, mstopped, mbroken, MTarget, mNumber, mRecord, mStale, mWrong, top, second, backTo, topmost, held, freeRoom, roomOf, leads, asNumber, asRecord, asReference, numberFrom, recordFrom, fieldsFrom, fieldOf, underEntry, writeAt, writeRoom, withFrames, on, onWith, leadsTo, results, doings}
+use Rattle.machine.specs.Machine.{MFrame, mframe, MRoom, mroom, MEntry, mentry, MState, mstate, MOutcome, mnext, mfinished, mstopped, mbroken, MTarget, mNumber, mRecord, mStale, mWrong, top, second, backTo, topmost, held, freeRoom, roomOf, leads, asNumber, asRecord, asReference, numberFrom, recordFrom, fieldsFrom, fieldOf, underEntry, writeAt, writeRoom, withFrames, on, onWith, leadsTo, calculates, doings}
 use Rattle.machine.specs.Represents as Rep
 use Rattle.machine.specs.Represents.{Shows, empty, number, whole, toALocal, toAField, toARecord, ShowsAll, no-more, and, ShowsLocals, no-local, and-local, ShowsFrames, no-frame, and-frame, ShowsStore, no-entry, and-entry, ShowsRooms, Represents, BaseShown, SameOutcome, goes-on, ends, stops, never}
 use Rattle.machine.proofs.Shows.{shows-more, all-more, locals-more, frames-more, store-more, push-all, all-length, frames-length, held-shows, set-shows, field-shows, start-shows, write-shows}
@@ -388,14 +391,12 @@ module _ (R D : List ℕ) (b d kind others id p i : ℕ) (ops ls : List Operand)
 
   same-op : SameOutcome R D (machine 19) (ruled 19)
   unfolding doings actions
-  same-op = two-go us _ _ (λ u w q. let s = the-two u w q in number-go _ _ (s .0) (λ x. number-go _ _ (s .1) (λ y. calculated x y b)))
+  same-op = two-go us _ _ (λ u w q. let s = the-two u w q in number-go _ _ (s .0) (λ x. number-go _ _ (s .1) (λ y. go (calculation b x y))))
     where
-      calculated : (x y k : ℕ) → SameOutcome R D (getD (results b d kind (length us) others id p i ops ls ms rooms (length rs) es n x y) k mbroken) (getD (calculations b d kind others us id p i rest os fs rs st n x y) k stuck)
-      calculated x y zero = within (ltb (x + y) 18446744073709551616) 32 _ _ (λ lt. same-push (and number no-more))
-      calculated x y (suc zero) = within (leb y x) 32 _ _ (λ lt. same-push (and number no-more))
-      calculated x y (suc (suc zero)) = same-push (and number no-more)
-      calculated x y (suc (suc (suc zero))) = same-push (and number no-more)
-      calculated x y (suc (suc (suc (suc k)))) = never
+      go : (c : Calculated) → SameOutcome R D (calculates b d kind (length us) others id p i ops ls ms rooms (length rs) es n c) (calculated b d kind others us id p i rest os fs rs st n c)
+      go (Gives x) = same-push (and number no-more)
+      go OutOfRange = stops
+      go Unknown = never
 
   -- all opcodes
   pub same-doing : (a : ℕ) → SameOutcome R D (machine a) (ruled a)

@@ -15,10 +15,10 @@ use Rattle.rules.proofs.Changes.{clash, live-put, live-snoc}
 use Rattle.rules.proofs.Counts.{put-set}
 use Rattle.rules.proofs.Sounds.{nth-set, nth-back, nth-put, nth-app, nth-snoc}
 use Rattle.rules.proofs.Typing.{_⊑_, snoc-more, snoc-last}
-use Rattle.cells.specs.declared.Reference.{Reference}
-use Rattle.cells.specs.declared.Reference.the-variants.{Local, Field, Record as Whole}
-use Rattle.cells.specs.declared.Operand.{Operand}
-use Rattle.cells.specs.declared.Operand.the-variants.{Empty, Number, Record, Refer}
+use Rattle.state.specs.declared.Reference.{Reference}
+use Rattle.state.specs.declared.Reference.the-variants.{Local, Field, Record as Whole}
+use Rattle.state.specs.declared.Operand.{Operand}
+use Rattle.state.specs.declared.Operand.the-variants.{Empty, Number, Record, Refer}
 use Rattle.machine.specs.Machine as M
 use Rattle.machine.specs.Machine.{MFrame, mframe, MRoom, mroom, MEntry, mentry, MTarget, mNumber, mRecord, mStale, mWrong, held, freeRoom, roomOf, localAt, putRoom, findEntry, dropEntry, inRoom, inOperand, fieldIn, leads}
 use Rattle.machine.specs.Represents.{Shows, empty, number, whole, toALocal, toAField, toARecord, ShowsAll, ShowsFrames, ShowsStore, no-entry, and-entry, ShowsRooms, usedCount}

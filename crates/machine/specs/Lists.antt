@@ -10,9 +10,9 @@ use Rattle.rules.specs.Machine.{num, state, finished, stopped}
 use Rattle.rules.specs.Calls.{Call, call}
 use Rattle.rules.specs.Ascii.{ascii}
 use Rattle.rules.specs.Text.{decimal, spaced, callLine}
-use Rattle.cells.specs.declared.Reference.{Reference}
-use Rattle.cells.specs.declared.Operand.{Operand}
-use Rattle.cells.specs.declared.Operand.the-variants.{Empty, Number, Record, Refer}
+use Rattle.state.specs.declared.Reference.{Reference}
+use Rattle.state.specs.declared.Operand.{Operand}
+use Rattle.state.specs.declared.Operand.the-variants.{Empty, Number, Record, Refer}
 use Rattle.machine.specs.Machine.{MFrame, mframe, MRoom, mroom, MEntry, mentry, MState, mstate, MOutcome, mnext, mfinished, mstopped, mbroken, roomOf}
 use Rattle.machine.specs.Runs.{MEnd, mend, mrow, mgo}
 

@@ -1,17 +1,19 @@
 -- The machine as its code has it, on lists: rooms for records, and references that tell where to look.
-use Prim.Native.Nat.{ℕ, zero, suc, _+_, _-_, _/_, _%_}
+use Prim.Native.Nat.{ℕ, zero, suc, _+_, _/_, _%_}
 use mathlib.Core.Bool.{Bool, true, false, cond, _&&_}
 use mathlib.Core.List.{List, [], _∷_, _++_, map}
 use mathlib.Core.Option.{Option, none, some}
-use lib.Dec.{eqb, ltb, leb}
+use lib.Dec.{eqb, ltb}
 use lib.ListN.{length, getD, set, take, drop, replicate, getElem? as nth}
 use Rattle.table.specs.declared.Row.{Row}
-use Rattle.rules.specs.Limits.{pastNumbers, maxFrames, maxRecords, maxEntries, outOfRange, keyTaken, noSuchKey, staleReference, tooManyFrames, tooManyRecords, tooManyEntries}
-use Rattle.rules.specs.Step.{truth}
-use Rattle.cells.specs.declared.Reference.{Reference}
-use Rattle.cells.specs.declared.Reference.the-variants.{Local, Field, Record as Whole}
-use Rattle.cells.specs.declared.Operand.{Operand}
-use Rattle.cells.specs.declared.Operand.the-variants.{Empty, Number, Record, Refer}
+use Rattle.arithmetic.specs.declared.Calculated.{Calculated}
+use Rattle.arithmetic.specs.declared.Calculated.the-variants.{Value, OutOfRange, Unknown}
+use Rattle.arithmetic.specs.Arithmetic.{calculation}
+use Rattle.rules.specs.Limits.{maxFrames, maxRecords, maxEntries, outOfRange, keyTaken, noSuchKey, staleReference, tooManyFrames, tooManyRecords, tooManyEntries}
+use Rattle.state.specs.declared.Reference.{Reference}
+use Rattle.state.specs.declared.Reference.the-variants.{Local, Field, Record as Whole}
+use Rattle.state.specs.declared.Operand.{Operand}
+use Rattle.state.specs.declared.Operand.the-variants.{Empty, Number, Record, Refer}
 
 -- a frame: serial number, procedure, instruction, operands, the top first, and locals
 pub data MFrame : Type 0 where
@@ -202,13 +204,11 @@ module _ (b d kind takes others s p at : ℕ) (ops ls : List Operand) (fs : List
   abbrev pub leadsTo : Reference → MTarget
   leadsTo r = leads (mframe s p at (drop takes ops) ls ∷ fs) rooms r
 
-  abbrev pub results : ℕ → ℕ → List MOutcome
-  results x y =
-      cond (ltb (x + y) pastNumbers) (on (Number (x + y) ∷ [])) (mstopped outOfRange)
-      ∷ cond (leb y x) (on (Number (x - y) ∷ [])) (mstopped outOfRange)
-      ∷ on (Number (truth (eqb x y)) ∷ [])
-      ∷ on (Number (truth (ltb x y)) ∷ [])
-      ∷ []
+  -- what an operation gives is pushed, or it stops
+  abbrev pub calculates : Calculated → MOutcome
+  calculates (Value x) = on (Number x ∷ [])
+  calculates OutOfRange = mstopped outOfRange
+  calculates Unknown = mbroken
 
   -- by opcode
   unfoldable pub doings : List MOutcome
@@ -238,5 +238,5 @@ module _ (b d kind takes others s p at : ℕ) (ops ls : List Operand) (fs : List
       ∷ given fs (topmost takes ops) rooms recs es n (mframe s p at (drop takes ops) ls)
       ∷ mnext (mstate (mframe s p b (drop takes ops) ls) fs rooms recs es n)
       ∷ asNumber (top ops) (λ (x : ℕ). mnext (mstate (mframe s p (cond (eqb x 0) (at + 1) b) (drop takes ops) ls) fs rooms recs es n))
-      ∷ asNumber (second ops) (λ (x : ℕ). asNumber (top ops) λ (y : ℕ). getD (results x y) b mbroken)
+      ∷ asNumber (second ops) (λ (x : ℕ). asNumber (top ops) λ (y : ℕ). calculates (calculation b x y))
       ∷ []

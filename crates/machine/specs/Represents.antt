@@ -7,10 +7,10 @@ use mathlib.Core.Option.{Option, none, some}
 use lib.ListN.{length, getElem? as nth}
 use Rattle.rules.proofs.Typing.{_⊑_}
 use Rattle.rules.specs.Machine.{Value, num, obj, toLocal, toField, toRecord, Cell, gone, here, Entry, entry, Frame, frame, State, state, Outcome, next, finished, stopped, stuck, liveCount, Target, aNumber, aRecord, stale, wrong}
-use Rattle.cells.specs.declared.Reference.{Reference}
-use Rattle.cells.specs.declared.Reference.the-variants.{Local, Field, Record as Whole}
-use Rattle.cells.specs.declared.Operand.{Operand}
-use Rattle.cells.specs.declared.Operand.the-variants.{Empty, Number, Record, Refer}
+use Rattle.state.specs.declared.Reference.{Reference}
+use Rattle.state.specs.declared.Reference.the-variants.{Local, Field, Record as Whole}
+use Rattle.state.specs.declared.Operand.{Operand}
+use Rattle.state.specs.declared.Operand.the-variants.{Empty, Number, Record, Refer}
 use Rattle.machine.specs.Machine.{MFrame, mframe, MRoom, mroom, MEntry, mentry, MState, mstate, MOutcome, mnext, mfinished, mstopped, mbroken, MTarget, mNumber, mRecord, mStale, mWrong}
 
 -- R has the room of each record ever made, D the depth of each frame ever made: a reference tells where to look, and that never changes

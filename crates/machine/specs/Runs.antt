@@ -9,7 +9,7 @@ use Rattle.program.specs.Program.{number, procedureIn, localCount, localKind}
 use Rattle.operands.specs.Flow.{effectIn}
 use Rattle.rules.specs.Limits.{budgetSpent}
 use Rattle.rules.specs.Step.{instruction}
-use Rattle.cells.specs.declared.Operand.{Operand}
+use Rattle.state.specs.declared.Operand.{Operand}
 use Rattle.machine.specs.Machine.{MFrame, mframe, MRoom, MEntry, MState, mstate, MOutcome, mnext, mfinished, mstopped, mbroken, doings}
 
 -- in a table with this index

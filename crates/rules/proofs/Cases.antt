@@ -1,5 +1,5 @@
 -- No instruction of an accepted table is stuck, and each keeps what holds: the cases by opcode.
-use Prim.Native.Nat.{ℕ, zero, suc, _+_, _-_, _/_, _%_, _^_, _<_, _≤_}
+use Prim.Native.Nat.{ℕ, zero, suc, _+_, _-_, _/_, _%_, _<_, _≤_}
 use mathlib.Core.Path.{_≡_, refl, ap, sym, _∙_}
 use mathlib.Core.List.{List, [], _∷_, _++_, map}
 use mathlib.Core.Bool.{Bool, true, false, cond, not, _&&_, or-true, true≢false}
@@ -7,8 +7,8 @@ use mathlib.Core.Option.{Option, none, some}
 use mathlib.Core.Logic.{_⊎_, inl, inr, ⊎-elim}
 use native.Mathlib.Omega.{arith}
 use lib.ListN.{length, getD, set, drop, replicate, length-append, length-map, getElem? as nth}
-use lib.Dec.{eqb, ltb, leb}
-use borrow.Author.Tests.{eqb-true, ltb-true, leb-true, not-true}
+use lib.Dec.{eqb, ltb}
+use borrow.Author.Tests.{eqb-true, ltb-true, not-true}
 use Rattle.table.specs.declared.index.Index.{Index}
 use Rattle.table.specs.Format
 use Rattle.table.specs.Index.{indexOf}
@@ -25,9 +25,13 @@ use Rattle.steps.specs.Steps.{nothingGiven, stepAt}
 use Rattle.walks.proofs.Regular.{step-takes}
 use Rattle.walks.specs.Checked.{Checked}
 use Rattle.judged.specs.Judged.{localKinds, Instruction, Procedure, Declared, Judged}
+use Rattle.arithmetic.specs.declared.Calculated.{Calculated}
+use Rattle.arithmetic.specs.declared.Calculated.the-variants.{Value as Gives, OutOfRange, Unknown}
+use Rattle.arithmetic.specs.Arithmetic.{calculation}
+use Rattle.arithmetic.proofs.Range.{four, word}
 use Rattle.rules.specs.Machine.{Value, num, obj, toLocal, toField, toRecord, Cell, gone, here, Entry, entry, Frame, frame, State, state, Outcome, next, finished, stopped, stuck, content, localOf, findKey, dropKey, putLocal, putField, liveCount, target, stale, writeFrames, writeRecords}
 use Rattle.rules.specs.Calls.{allNumbers}
-use Rattle.rules.specs.Step.{pushedOn, one, two, withNumber, withRecord, numberAt, recordAt, fieldsAt, withLocal, fillable, fieldReference, underKey, truth, calculations, actions, returned, noneHeld, nothingUnder}
+use Rattle.rules.specs.Step.{pushedOn, one, two, withNumber, withRecord, numberAt, recordAt, fieldsAt, withLocal, fillable, fieldReference, underKey, calculated, actions, returned, noneHeld, nothingUnder}
 use Rattle.rules.specs.Ownership.{same as sameId, inValue, inValues, inSlot, inLocals, inFrames, inRecords, inStore, livesAt}
 use Rattle.rules.proofs.Indexed.{moduleIn, declarerIn, guardedIn}
 use Rattle.rules.specs.Claim.{All, none-left, also, Owned, IsNumber}
@@ -418,22 +422,16 @@ module _ {t : List ℕ} {T W : List ℕ} {id p i : ℕ} {ops vs under : List Val
       go true = fall 18 e (λ z. omega arith) (λ z. omega arith)
       go false = R .instr .jumps (inr e)
 
-  truth-word : (c : Bool) → Word (truth c)
-  truth-word true = omega arith
-  truth-word false = omega arith
-
   -- a number pushed by Op
   number-pushed : op ≡ 19 → (x y z : ℕ) → vs ≡ num x ∷ num y ∷ [] → Word z → OutcomeOk t (Did R) (next (state (frame id p (i + 1) (num z ∷ under) ls ∷ fs) h st n))
   unfolding effects
   number-pushed e x y z q w = keeps R (λ q. omega (arith, e, q)) (i + 1) (fall 19 e (λ z. omega arith) (λ z. omega arith)) (a-value 19 e refl (λ m. fnum w refl)) (kept 19 e refl refl) (λ r. omega (arith, R .owned r, ap (inValues r) q))
 
-  calculated : op ≡ 19 → (x y k : ℕ) → k ≤ 3 → vs ≡ num x ∷ num y ∷ [] → Word x → Word y
-      → OutcomeOk t (Did R) (getD (calculations b (rowAt (codeOf t (procedureIn (indexOf t) p)) i .d) (localKind t (procedureIn (indexOf t) p) b) (localCount (procedureIn (indexOf t) b) - length vs) vs id p i under ls fs h st n x y) k stuck)
-  calculated e x y zero l q u w = within (Did R) (ltb (x + y) (2 ^ 64)) 32 _ (λ lt. number-pushed e x y (x + y) q (ltb-true (x + y) (2 ^ 64) lt))
-  calculated e x y (suc zero) l q u w = within (Did R) (leb y x) 32 _ (λ lt. number-pushed e x y (x - y) q (omega arith))
-  calculated e x y (suc (suc zero)) l q u w = number-pushed e x y _ q (truth-word (eqb x y))
-  calculated e x y (suc (suc (suc zero))) l q u w = number-pushed e x y _ q (truth-word (ltb x y))
-  calculated e x y (suc (suc (suc (suc k)))) l q u w = absurd (omega arith)
+  calculated-ok : op ≡ 19 → (x y : ℕ) → vs ≡ num x ∷ num y ∷ [] → Word x → (c : Calculated) → calculation b x y ≡ c
+      → OutcomeOk t (Did R) (calculated b (rowAt (codeOf t (procedureIn (indexOf t) p)) i .d) (localKind t (procedureIn (indexOf t) p) b) (localCount (procedureIn (indexOf t) b) - length vs) vs id p i under ls fs h st n c)
+  calculated-ok e x y q w (Gives z) g = number-pushed e x y z q (word b x y w g)
+  calculated-ok e x y q w OutOfRange g = tt
+  calculated-ok e x y q w Unknown g = omega (arith, four b x y .0 g, R .instr .calculates e)
 
   pub ok-op : Case 19
   unfolding actions effects
@@ -442,7 +440,7 @@ module _ {t : List ℕ} {T W : List ℕ} {id p i : ℕ} {ops vs under : List Val
       let x = as-number (q .5) refl in
       let y = as-number (q .6) refl in
       let shape : vs ≡ num (x .0) ∷ num (y .0) ∷ [] = q .4 ∙ cc (x .1, y .1) in
-      rw shape (calculated e (x .0) (y .0) b (R .instr .calculates e) shape (x .2) (y .2))
+      rw shape (calculated-ok e (x .0) (y .0) shape (x .2) _ refl)
 
 -- numbers hold no record
 numbers-hold : {t : List ℕ} {T W : List ℕ} {m : ℕ} {vs : List Value} {bs : List Bool} (ks : List ℕ) → allNumbers ks ≡ true → Has t (indexOf t) T W m vs ks bs → (r : ℕ) → inValues r vs ≡ 0

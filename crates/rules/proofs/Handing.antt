@@ -7,23 +7,26 @@ use mathlib.Core.Option.{Option, none, some}
 use mathlib.Core.Logic.{_⊎_, inl, inr, ⊎-elim, _≢_}
 use native.Mathlib.Omega.{arith}
 use lib.ListN.{length, getD, set, replicate, getElem? as nth}
-use lib.Dec.{eqb, ltb, leb}
+use lib.Dec.{eqb, ltb}
 use Rattle.table.specs.declared.Row.{Row}
 use Rattle.table.specs.declared.index.Index.{Index}
 use Rattle.table.specs.declared.index.ProcedureEntry.{ProcedureEntry}
 use Rattle.table.specs.Rows.{rowAt}
 use Rattle.program.specs.Program.{procedureIn, localCount, localKind}
 use Rattle.reach.specs.Reach.{Mem}
+use Rattle.arithmetic.specs.declared.Calculated.{Calculated}
+use Rattle.arithmetic.specs.declared.Calculated.the-variants.{Value as Gives, OutOfRange, Unknown}
+use Rattle.arithmetic.specs.Arithmetic.{calculation}
 use Rattle.rules.specs.Machine.{Value, num, obj, toLocal, toField, toRecord, valueKind, Cell, gone, here, Entry, Frame, frame, State, state, Outcome, next, finished, stopped, stuck, liveCount, findKey, putLocal, Target, aNumber, aRecord, stale, wrong, inCell, target, writeFrames, writeRecords}
-use Rattle.rules.specs.Step.{pushedOn, Taken, took, missing, taken, alsoTaken, withTaken, startLocals, returned, noneHeld, truth, calculations, actions, instruction, effectAt, act, step}
-use Rattle.rules.specs.Limits.{pastNumbers, maxFrames, maxRecords, maxEntries}
+use Rattle.rules.specs.Step.{pushedOn, Taken, took, missing, taken, alsoTaken, withTaken, startLocals, returned, noneHeld, calculated, actions, instruction, effectAt, act, step}
+use Rattle.rules.specs.Limits.{maxFrames, maxRecords, maxEntries}
 use Rattle.rules.specs.Words.{bodyOf, Holds, operand, local}
 use Rattle.rules.specs.Claim.{All, none-left, also, Rising, IsReference, Makes, local-made, field-made, nested-made, entry-made, Takes, Handed, goesOn, writes, calls, returns, Origin}
 use Rattle.rules.proofs.Changes.{clash}
 use Rattle.rules.proofs.Typing.{Fields, dnil, dnum, dobj, CellOk}
 use Rattle.rules.proofs.Frames.{all-set}
 use Rattle.rules.proofs.Running.{target-same}
-use Rattle.rules.proofs.Outcomes.{OutQ, goes, ends, stops, sticks, cond-q, local-q, one-q, two-q, number-q, record-q, number-at-q, record-at-q, fields-at-q, fillable-q, field-q, key-q, under-q, each-q, pick}
+use Rattle.rules.proofs.Outcomes.{OutQ, goes, ends, stops, sticks, cond-q, local-q, one-q, two-q, number-q, record-q, number-at-q, record-at-q, fields-at-q, fillable-q, field-q, key-q, under-q, pick}
 
 -- lists
 pub all-in : {A : Type 0} (Q : A → Type 0) (l : List A) → ((x : A) → Mem x l → Q x) → All Q l
@@ -201,8 +204,10 @@ module _ (t : List ℕ) (ix : Index) (T : List ℕ) (row id p i : ℕ) (ops : Li
         made-by : {c : ProcedureEntry} → c ≡ bodyOf t p → Makes t row id p ops here-now rs st (toLocal id b (localKind t c b))
         made-by c = rw c (local-made e)
 
-    given : rowAt t row .a ≡ 19 → (x : ℕ) → OutQ G E (next (state (frame id p (i + 1) (pushedOn (num x ∷ []) under) ls ∷ fs) rs st n))
-    given e x = on 19 (i + 1) {ws = num x ∷ []} refl e (also (number-known x) none-left) slots-known
+    given : rowAt t row .a ≡ 19 → (c : Calculated) → OutQ G E (calculated (rowAt t row .b) (rowAt t row .d) (localKind t (procedureIn ix p) (rowAt t row .b)) (localCount (procedureIn ix (rowAt t row .b)) - length vs) vs id p i under ls fs rs st n c)
+    given e (Gives x) = on 19 (i + 1) {ws = num x ∷ []} refl e (also (number-known x) none-left) slots-known
+    given e OutOfRange = stops
+    given e Unknown = sticks
 
     acted : OutQ G E (getD (actions (rowAt t row .b) (rowAt t row .d) (localKind t (procedureIn ix p) (rowAt t row .b)) (localCount (procedureIn ix (rowAt t row .b)) - length vs) vs id p i under ls fs rs st n) (rowAt t row .a) stuck)
     unfolding actions
@@ -250,11 +255,7 @@ module _ (t : List ℕ) (ix : Index) (T : List ℕ) (row id p i : ℕ) (ops : Li
                                         (
                                           (λ e. one-q G E vs _ (λ v q. number-q G E v _ (λ x u. on 18 _ {ws = []} refl e none-left slots-known))),
                                           (
-                                            (λ e. two-q G E vs _ (λ v w q. number-q G E v _ (λ x u. number-q G E w _ (λ y u′. each-q G E (calculations b d (localKind t (procedureIn ix p) b) (localCount (procedureIn ix b) - length vs) vs id p i under ls fs rs st n x y)
-                                                (also (cond-q G E (ltb (x + y) pastNumbers) _ _ (given e (x + y)) stops)
-                                                (also (cond-q G E (leb y x) _ _ (given e (x - y)) stops)
-                                                (also (given e (truth (eqb x y)))
-                                                (also (given e (truth (ltb x y))) none-left)))) b)))),
+                                            (λ e. two-q G E vs _ (λ v w q. number-q G E v _ (λ x u. number-q G E w _ (λ y u′. given e (calculation b x y))))),
                                             tt,
                                           ),
                                         ),

@@ -8,7 +8,6 @@ use native.Mathlib.Omega.{arith}
 use lib.ListN.{getD}
 use Rattle.rules.specs.Machine.{Value, num, obj, toLocal, toField, toRecord, Cell, Entry, Frame, frame, State, state, Outcome, next, finished, stopped, stuck, Target, aNumber, aRecord, stale, wrong}
 use Rattle.rules.specs.Step.{one, two, withNumber, withRecord, numberAt, recordAt, fieldsAt, withLocal, isObject, fillable, nothingUnder, fieldReference, underKey}
-use Rattle.rules.specs.Claim.{All, none-left, also}
 
 -- G of the frames and their count where it goes on, E of the results and the state where the call is done
 module _ (G : List Frame → ℕ → Type 0) (E : List Value → State → Type 0) where
@@ -88,11 +87,6 @@ module _ (G : List Frame → ℕ → Type 0) (E : List Value → State → Type 
   pub under-q : (ops : List Value) (x : Outcome) → (ops ≡ [] → OutQ x) → OutQ (nothingUnder ops x)
   under-q [] x a = a refl
   under-q (v ∷ ops) x a = sticks
-
-  pub each-q : (l : List Outcome) → All OutQ l → (i : ℕ) → OutQ (getD l i stuck)
-  each-q [] a i = sticks
-  each-q (x ∷ l) (also q a) zero = q
-  each-q (x ∷ l) (also q a) (suc i) = each-q l a i
 
   -- by opcode
   abbrev pub Each : ℕ → ℕ → List Outcome → Type 0

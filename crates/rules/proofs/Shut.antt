@@ -12,7 +12,8 @@ use Rattle.table.specs.Format.{instructionKind, opCall, opRet}
 use Rattle.table.specs.Rows.{rowAt, kindAt}
 use Rattle.table.specs.Index.{ownerAt}
 use Rattle.program.specs.Program.{number, numberRef, isReference, localKind, localCount}
-use Rattle.rules.specs.Limits.{budgetSpent, pastNumbers}
+use Rattle.arithmetic.specs.Arithmetic.{pastNumbers}
+use Rattle.rules.specs.Limits.{budgetSpent}
 use Rattle.reach.specs.Reach.{Mem}
 use Rattle.rules.specs.Machine.{Value, valueKind, num, obj, toLocal, toField, toRecord, Cell, gone, here, Entry, Frame, frame, State, state, Outcome, finished, stopped, stuck}
 use Rattle.rules.specs.Step.{pushedOn, instruction, effectAt, step}

@@ -1,5 +1,5 @@
 -- Values fit their kinds and marks: what holds of every value on the way.
-use Prim.Native.Nat.{ℕ, zero, suc, _+_, _^_, _<_, _≤_}
+use Prim.Native.Nat.{ℕ, zero, suc, _+_, _<_, _≤_}
 use mathlib.Core.Path.{_≡_, refl, ap, sym, _∙_}
 use mathlib.Core.List.{List, [], _∷_, _++_, map}
 use mathlib.Core.Bool.{Bool, true, false, cond, false≢true, true≢false}
@@ -13,6 +13,7 @@ use Rattle.program.specs.Program.{number, recordOf, numberRef, recordRef, refer
 use Rattle.operands.specs.Flow.{onto}
 use Rattle.flow.specs.Walks.{Slot, empty, full, pushedOn as marksOn}
 use Rattle.judged.specs.Judged.{localKinds}
+use Rattle.arithmetic.specs.Arithmetic.{pastNumbers}
 use Rattle.rules.specs.Machine.{Value, num, obj, toLocal, toField, toRecord, valueKind, Cell, gone, here, Entry, entry, Frame, frame, content}
 use Rattle.rules.specs.Step.{pushedOn, Taken, took, missing, taken, alsoTaken, startLocals, isObject, noneHeld}
 use Rattle.rules.specs.Ownership.{inValue, inValues, inSlot, inLocals}
@@ -23,7 +24,7 @@ use Rattle.rules.proofs.Sorts.{record-is, record-plain, reference-is, r
 
 -- 64 bits
 abbrev pub Word : ℕ → Type 0
-Word n = n < 2 ^ 64
+Word n = n < pastNumbers
 
 -- A value of kind k at a place that is marked or not, in a frame of module m. T has the type of each record ever made, W the procedure of each frame ever
 -- made. A reference to a guarded field stands at a marked place, in a frame of the module that declares it.

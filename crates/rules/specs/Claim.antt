@@ -12,7 +12,7 @@ use Rattle.table.specs.Rows.{rowAt, kindAt}
 use Rattle.table.specs.Index.{ownerAt}
 use Rattle.program.specs.Program.{number, isReference, procedureIn, localKind, localCount}
 use Rattle.reach.specs.Reach.{Mem}
-use Rattle.rules.specs.Limits.{pastNumbers}
+use Rattle.arithmetic.specs.Arithmetic.{pastNumbers}
 use Rattle.rules.specs.Machine.{Value, valueKind, num, obj, toLocal, toField, toRecord, putLocal, findKey, Cell, gone, here, Entry, Frame, frame, State, state, Outcome, next, finished, stopped, stuck, aRecord, target}
 use Rattle.rules.specs.Step.{pushedOn, startLocals, took, taken, instruction, effectAt, step}
 use Rattle.rules.specs.History.{Base, base, Event, moment, ended}

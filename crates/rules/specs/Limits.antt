@@ -1,9 +1,5 @@
 -- The limits and the stops of running by name (document 01, "Running").
-use Prim.Native.Nat.{ℕ, _^_}
-
--- numbers have 64 bits: they lie below this one
-abbrev pub pastNumbers : ℕ
-pastNumbers = 2 ^ 64
+use Prim.Native.Nat.{ℕ}
 
 -- at most so many frames, live records and store entries
 abbrev pub maxFrames : ℕ

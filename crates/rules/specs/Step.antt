@@ -3,7 +3,7 @@ use Prim.Native.Nat.{ℕ, zero, suc, _+_, _-_, _/_, _%_}
 use mathlib.Core.Bool.{Bool, true, false, cond}
 use mathlib.Core.List.{List, [], _∷_, _++_, map}
 use mathlib.Core.Option.{Option, none, some}
-use lib.Dec.{eqb, ltb, leb}
+use lib.Dec.{eqb, ltb}
 use lib.ListN.{length, getD, set, replicate, getElem? as nth}
 use Rattle.table.specs.declared.Row.{Row}
 use Rattle.table.specs.declared.index.Index.{Index}
@@ -11,7 +11,10 @@ use Rattle.table.specs.Rows.{rowAt}
 use Rattle.program.specs.Program.{number, isRecord, procedureIn, codeOf, localCount, localKind}
 use Rattle.kinds.specs.Effects.{Effect}
 use Rattle.operands.specs.Flow.{effectIn}
-use Rattle.rules.specs.Limits.{pastNumbers, maxFrames, maxRecords, maxEntries, outOfRange, keyTaken, noSuchKey, staleReference, tooManyFrames, tooManyRecords, tooManyEntries}
+use Rattle.arithmetic.specs.declared.Calculated.{Calculated}
+use Rattle.arithmetic.specs.declared.Calculated.the-variants.{Value as Gives, OutOfRange, Unknown}
+use Rattle.arithmetic.specs.Arithmetic.{calculation}
+use Rattle.rules.specs.Limits.{maxFrames, maxRecords, maxEntries, outOfRange, keyTaken, noSuchKey, staleReference, tooManyFrames, tooManyRecords, tooManyEntries}
 use Rattle.rules.specs.Machine.{Value, num, obj, toLocal, toField, toRecord, valueKind, Cell, gone, here, Entry, entry, Frame, frame, State, state, Outcome, next, finished, stopped, stuck, liveCount, findKey, dropKey, Target, aNumber, aRecord, stale, wrong, inCell, target, writeFrames, writeRecords}
 
 -- values pushed on operands, the first of the list first
@@ -123,11 +126,6 @@ abbrev pub underKey : Option ℕ → Outcome → (ℕ → Outcome) → Outcome
 underKey none absent present = absent
 underKey (some id) absent present = present id
 
--- 1 or 0
-abbrev pub truth : Bool → ℕ
-truth true = 1
-truth false = 0
-
 -- how a called frame's locals start: the parameters full, the others empty
 abbrev pub startLocals : List Value → ℕ → List (Option Value)
 startLocals [] others = replicate others none
@@ -162,14 +160,11 @@ module _ (b d kind others : ℕ) (vs : List Value) (id p i : ℕ) (ops : List Va
   abbrev pub lead : Value → Target
   lead r = target (frame id p i ops ls ∷ fs) rs r
 
-  -- Op, by operand: add, subtract the second from the first, equal, less
-  abbrev pub calculations : ℕ → ℕ → List Outcome
-  calculations x y =
-      cond (ltb (x + y) pastNumbers) (push (num (x + y) ∷ [])) (stopped outOfRange)
-      ∷ cond (leb y x) (push (num (x - y) ∷ [])) (stopped outOfRange)
-      ∷ push (num (truth (eqb x y)) ∷ [])
-      ∷ push (num (truth (ltb x y)) ∷ [])
-      ∷ []
+  -- what an operation gives is pushed, or it stops
+  abbrev pub calculated : Calculated → Outcome
+  calculated (Gives n) = push (num n ∷ [])
+  calculated OutOfRange = stopped outOfRange
+  calculated Unknown = stuck
 
   -- by opcode
   unfoldable pub actions : List Outcome
@@ -203,7 +198,7 @@ module _ (b d kind others : ℕ) (vs : List Value) (id p i : ℕ) (ops : List Va
       -- Branch; BranchCond: jumps if not 0; Op
       ∷ goTo b
       ∷ one vs (λ (v : Value). withNumber v λ (x : ℕ). goTo (cond (eqb x 0) (i + 1) b))
-      ∷ two vs (λ (v w : Value). withNumber v λ (x : ℕ). withNumber w λ (y : ℕ). getD (calculations x y) b stuck)
+      ∷ two vs (λ (v w : Value). withNumber v λ (x : ℕ). withNumber w λ (y : ℕ). calculated (calculation b x y))
       ∷ []
 
 -- the kind of the top operand, which Pop takes

@@ -1,15 +1,11 @@
--- The text by the run loop's account is the text of the rules.
-use Prim.Native.Nat.{ℕ, zero, suc, _+_, _-_, _*_, _%_, _<_, _≤_, _^_}
+-- The text by the interpreter's account is the text of the rules.
+use Prim.Native.Nat.{ℕ, zero, suc, _+_, _*_, _<_, _≤_, _^_}
 use mathlib.Core.Path.{_≡_, refl, sym, ap, subst, _∙_}
-use mathlib.Core.Bool.{Bool, true, false}
-use mathlib.Core.List.{List, [], _∷_, _++_, map, reverse, append-assoc, append-nil, reverse-reverse}
-use mathlib.Core.Option.{none}
+use mathlib.Core.List.{List, [], _∷_, _++_, append-assoc}
+use mathlib.Core.Option.{Option, none}
 use native.Mathlib.Omega.{arith}
-use lib.ListN.{length, getD, take, replicate, length-replicate, length-append, length-map, length-reverse, getD-replicate}
-use lib.Seq.{take-length}
-use borrow.Author.Tests.{lt-ltb}
+use lib.ListN.{length, getD, replicate, length-replicate, getD-replicate}
 use Rattle.table.specs.Index.{indexOf}
-use Rattle.program.specs.Program.{kindsOf, procedureIn, localCount, parametersEnd, parameterKinds}
 use Rattle.table.specs.declared.Verdict.the-variants.{Accepted}
 use Rattle.judging.specs.Judging.{judgeOf}
 use Rattle.judged.specs.Judged.{Bytes, Judged}
@@ -18,177 +14,94 @@ use Rattle.rules.specs.Machine.{Entry}
 use Rattle.rules.specs.Calls.{Call, call, listOf, callsOf}
 use Rattle.rules.specs.Text.{textOf}
 use Rattle.rules.specs.Run.{historyOf}
+use Rattle.rules.specs.Callable.{GoodCall}
+use Rattle.rules.specs.Claim.{All, none-left, also}
 use Rattle.rules.proofs.Callable.{list-rows, good-calls}
 use Rattle.rules.proofs.Ends.{calls-in-rows}
-use Rattle.rules.specs.Callable.{Callable, GoodCall}
-use Rattle.rules.specs.Claim.{All, none-left, also}
-use Rattle.cells.specs.declared.Operand.{Operand}
-use Rattle.cells.specs.declared.Operand.the-variants.{Empty, Number}
-use Rattle.cells.specs.declared.Frame.{Frame}
-use Rattle.cells.specs.declared.Room.{Room}
-use Rattle.cells.specs.Parts.{frameCells, roomCells, empty, pushed}
-use Rattle.cells.specs.Views.{topFirst, operandsOf, localsOf, Sized, SizedRoom}
-use Rattle.cells.proofs.Sizes.{sized-push, sized-enter}
-use Rattle.machine.specs.Machine.{mframe, MState, mstate, mnext, mfinished, mstopped, mbroken, backTo, topmost}
-use Rattle.machine.specs.Runs.{MEnd, mend, mgo}
-use Rattle.machine.specs.Lists.{MBase, mbase, mnothing, mafter, mbegin, mline, mlines, mlast, mentryLines, mstoreLines, mtext}
-use Rattle.machine.specs.Views.{frameOf, roomView}
-use Rattle.machine.proofs.Views.{back-reverse, topmost-reverse, push-stands, enter-stands}
-use Rattle.machine.proofs.Lists.{Between, between-nothing, between-begins, between-after, text-same}
-use Rattle.memory.proofs.Entries.{empty-view, empty-sized}
-use Rattle.memory.specs.Views.{entriesOf, roomsOf}
-use Rattle.stores.proofs.Laws.{store-entries}
-use Rattle.answers.specs.Meaning.{blankFrame, belowOf}
-use Rattle.running.specs.declared.Base.{Base}
-use Rattle.running.specs.declared.Ended.{Ended}
-use Rattle.running.specs.Running.{noFrame, noRoom, nextSerial, starting, run}
-use Rattle.running.specs.Stands.{viewOf, baseOf, endLine, Live, Arrays, Stands, StandsAt}
-use Rattle.running.proofs.Calls.{run-follows}
-use Rattle.runs.specs.Lists.{pushedNumbers, firstOf, blankRoom, emptyBase, begun, storeText, endOf, textFrom, textIn}
-
--- the blank frame
-blank-sized : Sized blankFrame
-blank-sized = record { low = omega arith; few = omega arith; operands = length-replicate frameCells empty; locals = length-replicate frameCells empty }
-
--- numbers pushed on a frame with room for them
-record Pushed (f : Frame) (xs : List ℕ) : Type 0 where
-  sized : Sized (pushedNumbers f xs)
-  height : pushedNumbers f xs .height ≡ f .height + length xs
-  operands : operandsOf (pushedNumbers f xs) ≡ backTo (map Number xs) (operandsOf f)
-
-pushed-numbers : (f : Frame) (xs : List ℕ) → Sized f → f .height + length xs ≤ frameCells → Pushed f xs
-unfolding pushedNumbers
-pushed-numbers f [] z h = record { sized = z; height = omega arith; operands = refl }
-pushed-numbers f (x ∷ xs) z h =
-    let low : f .height < frameCells = omega arith in
-    let up : pushed f (Number x) .height ≡ f .height + 1 = rw (lt-ltb (f .height) frameCells low) refl in
-    let rest = pushed-numbers (pushed f (Number x)) xs (sized-push f z (Number x)) (omega (arith, up)) in
-    record { sized = rest .sized; height = omega (arith, rest .height, up); operands = rest .operands ∙ ap (backTo (map Number xs)) (push-stands f (Number x) z low) }
-
--- the operands that were pushed are the topmost
-topmost-all : (xs : List Operand) → topmost (length xs) (backTo xs []) ≡ xs
-topmost-all xs =
-    let e : backTo xs [] ≡ reverse xs = back-reverse xs [] ∙ append-nil (reverse xs) in
-    rw e (topmost-reverse (length xs) (reverse xs) ∙ ap reverse (ap (λ (k : ℕ). take k (reverse xs)) (sym (length-reverse xs)) ∙ take-length (reverse xs)) ∙ reverse-reverse xs)
-
--- the first frame of a call
-module _ (args : List ℕ) (n q count : ℕ) (low : q < 256) (fits : length args ≤ count) (few : count ≤ frameCells) where
-  args-pushed : Pushed blankFrame args
-  args-pushed = pushed-numbers blankFrame args blank-sized (omega arith)
-
-  first-sized : Sized (firstOf args n (q % 256) count)
-  first-sized = sized-enter (pushedNumbers blankFrame args) (args-pushed .sized) n (q % 256) (length args) count
-
-  first-is : frameOf (firstOf args n (q % 256) count) ≡ mframe n q 0 [] (map Number args ++ replicate (count - length args) Empty)
-  unfolding topFirst
-  first-is =
-      let p = args-pushed in
-      let tall : length args ≤ pushedNumbers blankFrame args .height = omega (arith, p .height) in
-      let same : q % 256 ≡ q = omega (arith, low) in
-      let ops : topmost (length args) (operandsOf (pushedNumbers blankFrame args)) ≡ map Number args =
-      rw (p .operands) (ap (λ (k : ℕ). topmost k (backTo (map Number args) [])) (sym (length-map args Number)) ∙ topmost-all (map Number args)) in
-      rw (same, enter-stands (pushedNumbers blankFrame args) (p .sized) (length args) tall n q count fits few, ops) refl
-
--- what there is when a call begins: only the count of frames is another, and no stop restores it
-after-begun : (b : Base) (w : MEnd) → mafter (baseOf b) w ≡ mafter (baseOf (begun b)) w
-after-begun b (mend (mstate f fs rooms recs es n) (mnext m)) = refl
-after-begun b (mend (mstate f fs rooms recs es n) (mfinished xs (mstate f′ fs′ rooms′ recs′ es′ n′))) = refl
-after-begun b (mend (mstate f fs rooms recs es n) (mstopped k)) = refl
-after-begun b (mend (mstate f fs rooms recs es n) mbroken) = refl
+use Rattle.state.specs.declared.Operand.{Operand}
+use Rattle.state.specs.declared.Operand.the-variants.{Empty}
+use Rattle.state.specs.declared.frames.State.{State}
+use Rattle.state.specs.Coding.{isRecord}
+use Rattle.state.specs.Layout.{roomCell, allCells}
+use Rattle.machine.specs.Machine.{MRoom}
+use Rattle.machine.specs.Runs.{MEnd, mgo}
+use Rattle.machine.specs.Lists.{mnothing, mafter, mbegin, mline, mlines, mlast, mstoreLines, mtext}
+use Rattle.machine.specs.Views.{tab, roomIn, roomsIn, entriesIn, viewOf}
+use Rattle.machine.proofs.Lists.{Between, between-nothing, between-after, text-same}
+use Rattle.machine.proofs.Views.{tab-same}
+use Rattle.frames.specs.Turning.{Turning, after}
+use Rattle.interpreter.specs.Run.{runFrom}
+use Rattle.interpreter.specs.Calls.{keptOf, begun, begunIn, restoredTo, callTurn}
+use Rattle.interpreter.proofs.Keeping.{length-kept-of}
+use Rattle.interpreter.proofs.Follows.{baseIn, run-follows}
+use Rattle.runs.specs.Lists.{start, allEmpty, onTurn, storeText, lineOf, textFrom, textIn}
+use Rattle.runs.proofs.Calls.{Lasting, Ending, Ended, call-follows}
 
 -- counts that leave room for so many more calls
-abbrev Spare : ℕ → Base → Type 0
-Spare k b = (b .records + 65536 * k < 2 ^ 32) × (b .frames + 65536 * k < 2 ^ 32)
-
-serial-next : (n : ℕ) → n < 4294967295 → nextSerial n ≡ n + 1
-unfolding nextSerial
-serial-next n h = rw (lt-ltb n 4294967295 h) refl
+abbrev Spare : ℕ → State → Type 0
+Spare k s = (s .records + 65536 * k < 2 ^ 32) × (s .frames + 65536 * k < 2 ^ 32)
 
 module _ (t : List ℕ) (J : Judged t (indexOf t)) where
-  -- one call
-  module _ (b : Base) (q budget : ℕ) (args : List ℕ) (k : ℕ) (c : Callable t (indexOf t) q budget args) (w : Between t J (baseOf b)) (a : Arrays (b .rooms) (b .used) (b .store)) (z : Spare (suc k) b) where
-    abbrev first : Frame
-    first = firstOf args (b .frames) (q % 256) (localCount (procedureIn (indexOf t) q))
+  -- what lasts before the calls of a list
+  record Before (cs ks : List Operand) (s : State) (left : ℕ) : Type 0 where
+    lasting : Lasting cs s
+    kept-whole : length ks ≡ allCells
+    between : Between t J (baseIn cs s)
+    spare : Spare left s
 
-    low : q < 256
-    low = omega (arith, J .procedure q (c .there) .low)
-
-    fits : length args ≤ localCount (procedureIn (indexOf t) q)
-    fits =
-        let p = J .procedure q (c .there) in
-        omega (arith, c .count, p .locals, ap length (p .split), length-append (parameterKinds t (procedureIn (indexOf t) q)) (kindsOf t (parametersEnd t (procedureIn (indexOf t) q)) (procedureIn (indexOf t) q .results)))
-
-    few : localCount (procedureIn (indexOf t) q) ≤ frameCells
-    few = J .procedure q (c .there) .few-locals
-
-    view-begins : viewOf (starting first (begun b)) ≡ mbegin t (indexOf t) q args (baseOf b)
-    unfolding belowOf
-    view-begins = rw (first-is args (b .frames) q (localCount (procedureIn (indexOf t) q)) low fits few, serial-next (b .frames) (omega (arith, z .1))) refl
-
-    begins : StandsAt t budget (starting first (begun b))
-    begins = record {
-      frame = first-sized args (b .frames) q (localCount (procedureIn (indexOf t) q)) low fits few;
-      frames = λ i l. rw (getD-replicate 16 i blankFrame noFrame l) blank-sized;
-      below-whole = length-replicate 16 blankFrame;
-      depth-low = omega arith;
-      arrays = a;
-      records-few = omega (arith, z .0, c .limited);
-      frames-few = rw (serial-next (b .frames) (omega (arith, z .1))) (omega (arith, z .1, c .limited));
-      live = subst (Live t) (sym view-begins) (between-begins t J q budget args (roomsOf roomView (b .rooms) (b .used)) (b .records) (entriesOf (b .store)) (b .frames) c w);
-    }
-
-    -- its end, as the machine on lists has it
-    abbrev ended : Ended
-    ended = endOf t (indexOf t) b (call q budget args)
-
-    abbrev mended : MEnd
-    mended = mgo t (indexOf t) budget (mbegin t (indexOf t) q args (baseOf b))
-
-    record Ending : Type 0 where
-      base-is : mafter (baseOf b) mended ≡ baseOf (ended .base)
-      line-is : (i : ℕ) → mline t (indexOf t) i mended ≡ endLine i (ended .end) (ended .row) (ended .results)
-      arrays : Arrays (ended .base .rooms) (ended .base .used) (ended .base .store)
-      spare : Spare k (ended .base)
-
-    ending : Ending
-    unfolding endOf
-    ending =
-        let r = run-follows t J (begun b) a budget (starting first (begun b)) begins in
-        let more = serial-next (b .frames) (omega (arith, z .1)) in
-        record {
-          base-is = after-begun b mended ∙ subst (λ (v : MState). mafter (baseOf (begun b)) (mgo t (indexOf t) budget v) ≡ baseOf (ended .base)) view-begins (r .0);
-          line-is = λ i. subst (λ (v : MState). mline t (indexOf t) i (mgo t (indexOf t) budget v) ≡ endLine i (ended .end) (ended .row) (ended .results)) view-begins (r .1 i);
-          arrays = r .2;
-          spare = (omega (arith, r .3, z .0, c .limited), omega (arith, r .4, more, z .1, c .limited));
-        }
-
-  -- the calls of a list
-  text-follows : (cs : List Call) (i : ℕ) (b : Base) → All (GoodCall t (indexOf t)) cs → Between t J (baseOf b) → Arrays (b .rooms) (b .used) (b .store) → Spare (length cs) b
-      → textFrom t (indexOf t) i cs b ≡ mlines t (indexOf t) i cs (baseOf b) ++ mstoreLines (mlast t (indexOf t) cs (baseOf b))
+  text-follows : (calls : List Call) (i : ℕ) (cs ks : List Operand) (s : State) → All (GoodCall t (indexOf t)) calls → Before cs ks s (length calls)
+      → textFrom t (indexOf t) i calls cs ks s ≡ mlines t (indexOf t) i calls (baseIn cs s) ++ mstoreLines (mlast t (indexOf t) calls (baseIn cs s))
   unfolding textFrom mlines mlast storeText
-  text-follows [] i b g w a z = ap (mentryLines (roomsOf roomView (b .rooms) (b .used))) (store-entries (b .store) (a .store))
-  text-follows (call q budget args ∷ cs) i b (also c g) w a z =
-      let e = ending b q budget args (length cs) c w a z in
-      let d = ended b q budget args (length cs) c w a z in
-      let m = mended b q budget args (length cs) c w a z in
-      let later = text-follows cs (i + 1) (d .base) g (rw (e .base-is) at (between-after t J q budget args (baseOf b) c w)) (e .arrays) (e .spare) in
-      rw (← e .line-is i, later, e .base-is) (sym (append-assoc (mline t (indexOf t) i m) (mlines t (indexOf t) (i + 1) cs (baseOf (d .base))) (mstoreLines (mlast t (indexOf t) cs (baseOf (d .base))))))
+  text-follows [] i cs ks s g b = refl
+  text-follows (call q budget args ∷ calls) i cs ks s (also c g) b =
+      go (callTurn t (indexOf t) cs ks s (call q budget args))
+      (call-follows t J cs ks s (b .kept-whole) (b .lasting) q budget args c (b .between) (omega (arith, b .spare .0)) (omega (arith, b .spare .1)))
+      (text-follows calls (i + 1))
+    where
+      ended : MEnd
+      ended = mgo t (indexOf t) budget (mbegin t (indexOf t) q args (baseIn cs s))
+
+      go : (turn : Turning) → Ended t J cs ks s (b .kept-whole) (b .lasting) q budget args c (b .between) (omega (arith, b .spare .0)) (omega (arith, b .spare .1)) ended turn
+          → ((ds ls : List Operand) (z : State) → All (GoodCall t (indexOf t)) calls → Before ds ls z (length calls)
+          → textFrom t (indexOf t) (i + 1) calls ds ls z ≡ mlines t (indexOf t) (i + 1) calls (baseIn ds z) ++ mstoreLines (mlast t (indexOf t) calls (baseIn ds z)))
+          → onTurn turn (λ (ds : List Operand) (z : State). lineOf (indexOf t) i ds z ++ textFrom t (indexOf t) (i + 1) calls ds (keptOf ks cs s) z)
+          ≡ (mline t (indexOf t) i ended ++ mlines t (indexOf t) (i + 1) calls (mafter (baseIn cs s) ended)) ++ mstoreLines (mlast t (indexOf t) calls (mafter (baseIn cs s) ended))
+      go (after z ds) e rest =
+          let later = rest ds (keptOf ks cs s) z g (record {
+            lasting = e .lasting;
+            kept-whole = length-kept-of ks cs s (b .kept-whole) (b .lasting .whole) (b .lasting .stored) (b .lasting .rooms-low);
+            between = rw (e .base-is) at (between-after t J q budget args (baseIn cs s) c (b .between));
+            spare = (omega (arith, e .records-more, b .spare, c .limited), omega (arith, e .frames-more, b .spare, c .limited));
+          }) in
+          rw (← e .line-is i, later, e .base-is) (sym (append-assoc (mline t (indexOf t) i ended) (mlines t (indexOf t) (i + 1) calls (baseIn ds z)) (mstoreLines (mlast t (indexOf t) calls (baseIn ds z)))))
 
 -- all rooms free, and an empty store
-free-rooms : (n : ℕ) (m : Room) → roomsOf roomView (replicate n m) (replicate n false) ≡ replicate n none
-unfolding roomsOf
-free-rooms zero m = refl
-free-rooms (suc n) m = rw (free-rooms n m) refl
+empty-at : (i : ℕ) → getD allEmpty i Empty ≡ Empty
+empty-at i = go allCells i
+  where
+    go : (n i : ℕ) → getD (replicate n Empty) i Empty ≡ Empty
+    go zero i = refl
+    go (suc n) zero = refl
+    go (suc n) (suc i) = go n i
 
-empty-is : baseOf emptyBase ≡ mnothing
-empty-is = rw (free-rooms 128 blankRoom, empty-view) refl
+abbrev noRoom : ℕ → Option MRoom
+noRoom r = none
 
-empty-arrays : Arrays (emptyBase .rooms) (emptyBase .used) (emptyBase .store)
-empty-arrays = record {
-  rooms-whole = length-replicate 128 blankRoom;
-  used-whole = length-replicate 128 false;
-  rooms-sized = λ r l. rw (getD-replicate 128 r blankRoom noRoom l) (record { few = omega arith; fields = length-replicate roomCells empty });
-  store = empty-sized;
+free-rooms : (b n : ℕ) → tab noRoom b n ≡ replicate n none
+unfolding tab
+free-rooms b zero = refl
+free-rooms b (suc n) = ap (λ (l : List (Option MRoom)). none ∷ l) (free-rooms (suc b) n)
+
+start-is : baseIn allEmpty start ≡ mnothing
+unfolding roomIn entriesIn
+start-is = rw (tab-same noRoom (roomIn allEmpty) 0 128 (λ r l m. rw (empty-at (roomCell r))) ∙ free-rooms 0 128)
+
+start-lasts : Lasting allEmpty start
+start-lasts = record {
+  whole = length-replicate allCells Empty;
+  tidy = record { in-use = λ r l. absurd (omega arith); unused = λ r l m. rw (empty-at (roomCell r)); free-low = omega arith };
+  rooms-low = omega arith;
+  stored = omega arith;
 }
 
 -- the text of a good list over an accepted table
@@ -197,5 +110,6 @@ unfolding textIn mtext
 text-is t l n k bt bl e d =
     let J = judged t n bt e in
     let few : length (callsOf l) ≤ 256 = omega (arith, calls-in-rows l, list-rows t (indexOf t) l k d) in
-    text-follows t J (callsOf l) 0 emptyBase (good-calls t (indexOf t) l k bl d) (subst (Between t J) (sym empty-is) (between-nothing t J)) empty-arrays (omega (arith, few), omega (arith, few))
-    ∙ rw empty-is (sym (text-same t l n k bt bl e d))
+    text-follows t J (callsOf l) 0 allEmpty allEmpty start (good-calls t (indexOf t) l k bl d)
+    (record { lasting = start-lasts; kept-whole = length-replicate allCells Empty; between = subst (Between t J) (sym start-is) (between-nothing t J); spare = (omega (arith, few), omega (arith, few)) })
+    ∙ rw start-is (sym (text-same t l n k bt bl e d))

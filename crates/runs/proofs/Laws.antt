@@ -1,77 +1,68 @@
--- Laws of a list of calls by the run loop's account.
-use Prim.Native.Nat.{ℕ, zero, suc, _+_, _-_, _%_, _<_, _≤_}
-use mathlib.Core.Path.{_≡_, refl, sym, ap, _∙_}
+-- Laws of a list of calls by the interpreter's account.
+use Prim.Native.Nat.{ℕ, zero, suc, _+_, _-_, _<_, _≤_}
+use mathlib.Core.Path.{_≡_, refl, ap, _∙_}
 use mathlib.Core.Bool.{true, false}
-use mathlib.Core.List.{List, [], _∷_}
+use mathlib.Core.List.{List, _∷_}
 use native.Mathlib.Omega.{arith}
-use lib.ListN.{length, getD, drop}
-use Rattle.table.specs.declared.Row.{Row}
+use lib.ListN.{replicate}
 use Rattle.table.specs.declared.index.Index.{Index}
 use Rattle.table.specs.declared.index.ProcedureEntry.{ProcedureEntry}
-use Rattle.program.specs.Program.{procedureIn, localCount}
 use Rattle.table.specs.Rows.{isKind, rowCount, rowAt}
+use Rattle.program.specs.Program.{procedureIn}
 use Rattle.rules.specs.Calls.{callRow, arguments, Call, call, callsFrom, callsOf}
 use Rattle.calls.proofs.Laws.{call-here, call-not, calls-end}
 use Rattle.text.specs.Placing.{placed}
 use Rattle.text.proofs.Placing.{Puts, placed-append}
-use Rattle.cells.specs.declared.Operand.the-variants.{Number}
-use Rattle.cells.specs.declared.Frame.{Frame}
-use Rattle.cells.specs.Parts.{pushed}
+use Rattle.state.specs.declared.Operand.{Operand}
+use Rattle.state.specs.declared.Operand.the-variants.{Empty}
+use Rattle.state.specs.declared.frames.State.{State}
+use Rattle.state.specs.Coding.{values, valueOf}
+use Rattle.state.specs.Cells.{cellsOf}
 use Rattle.machine.specs.Lists.{mentryLines}
-use Rattle.machine.specs.Views.{roomView}
-use Rattle.memory.specs.Entries.{places}
-use Rattle.memory.specs.Views.{roomsOf, newestFirst}
-use Rattle.running.specs.declared.Base.{Base}
-use Rattle.running.specs.declared.Ended.{Ended}
-use Rattle.running.specs.Running.{starting, run}
-use Rattle.running.specs.Stands.{endLine}
-use Rattle.runs.specs.Lists.{pushedNumbers, firstOf, begun, emptyBase, storeText, endOf, textFrom, textIn}
+use Rattle.machine.specs.Views.{roomsIn, entriesIn}
+use Rattle.frames.specs.Turning.{after}
+use Rattle.interpreter.specs.Calls.{keptOf, callTurn}
+use Rattle.runs.specs.Lists.{resultsIn, endLine, start, storeText, lineOf, textFrom, textIn}
 
--- numbers pushed one by one
-pub numbers-more : (f : Frame) (xs : List ℕ) (k : ℕ) {g : Frame} {x : ℕ} → k < length xs → x ≡ getD xs k 0 → g ≡ pushed f (Number x) → pushedNumbers f (drop k xs) ≡ pushedNumbers g (drop (k + 1) xs)
-unfolding pushedNumbers
-numbers-more f [] k l e d = absurd (omega arith)
-numbers-more f (y ∷ xs) zero l e d = rw (d, e) refl
-numbers-more f (y ∷ xs) (suc k) l e d = let q : suc k + 1 ≡ suc (k + 1) = omega arith in rw q (numbers-more f xs k (omega arith) e d)
+-- cells of zeros are empty
+cells-empty : (n : ℕ) → cellsOf (replicate n 0) (replicate n 0) ≡ replicate n Empty
+unfolding cellsOf valueOf values
+cells-empty zero = refl
+cells-empty (suc n) = ap (λ (cs : List Operand). Empty ∷ cs) (cells-empty n)
 
-pub numbers-done : (f : Frame) (xs : List ℕ) (k : ℕ) → length xs ≤ k → pushedNumbers f (drop k xs) ≡ f
-unfolding pushedNumbers
-numbers-done f [] zero l = refl
-numbers-done f [] (suc k) l = refl
-numbers-done f (y ∷ xs) zero l = absurd (omega arith)
-numbers-done f (y ∷ xs) (suc k) l = numbers-done f xs k (omega arith)
+-- the line of a call by its parts
+pub line-is : (ix : Index) (i : ℕ) (cs : List Operand) (s : State) (buffer : List ℕ) (at : ℕ) {own : ProcedureEntry} {count : ℕ} {results u : List ℕ} {r : ℕ} → own ≡ procedureIn ix (s .procedure)
+    → count ≡ own .code - own .results → results ≡ resultsIn cs s count → Puts buffer at (endLine i (s .stop) (own .code + s .at) results count) u r → Puts buffer at (lineOf ix i cs s) u r
+unfolding lineOf
+line-is ix i cs s buffer at o c e p = rw (← o, ← c, ← e) p
 
 -- a call and the calls after it, a row that is no call, and the end of the list
 module _ (t : List ℕ) (ix : Index) (l : List ℕ) where
   -- the text of the calls from row i on, the next of them call k
-  abbrev pub textAt : ℕ → ℕ → Base → List ℕ
-  textAt i k b = textFrom t ix k (callsFrom l i (rowCount l - i)) b
+  abbrev pub textAt : ℕ → ℕ → List Operand → List Operand → State → List ℕ
+  textAt i k cs ks s = textFrom t ix k (callsFrom l i (rowCount l - i)) cs ks s
 
   -- the call at row i
   abbrev pub callAt : ℕ → Call
   callAt i = call (rowAt l i .b) (rowAt l i .c) (arguments l (i + 1) (rowCount l - (i + 1)))
 
-  pub end-is : (b : Base) (i : ℕ) {row : Row} {callee : ProcedureEntry} {count : ℕ} {first : Frame} {b′ : Base} {e : Ended} → row ≡ rowAt l i → callee ≡ procedureIn ix (row .b) → count ≡ localCount callee
-      → first ≡ firstOf (arguments l (i + 1) (rowCount l - (i + 1))) (b .frames) (row .b % 256) count → b′ ≡ begun b → e ≡ run t ix b′ (row .c) (starting first b′) → e ≡ endOf t ix b (callAt i)
-  unfolding endOf
-  end-is b i r p c f d e = rw (e, d, f, c, p, r) refl
+  module _ (buffer : List ℕ) (at i k : ℕ) (cs ks : List Operand) (s : State) where
+    pub text-call : {s′ : State} {ds ls : List Operand} {u : List ℕ} {r : ℕ} → i < rowCount l → isKind l callRow i ≡ true → after s′ ds ≡ callTurn t ix cs ks s (callAt i) → ls ≡ keptOf ks cs s
+        → Puts buffer at (lineOf ix k ds s′) u r → placed buffer at (textAt i k cs ks s) ≡ placed u r (textAt (i + 1) (k + 1) ds ls s′)
+    unfolding textFrom
+    text-call {s′} {ds} {ls} h q e d p =
+        rw (call-here l i (rowCount l) h q, ← e, ← d) (placed-append buffer at (lineOf ix k ds s′) (textAt (i + 1) (k + 1) ds ls s′) ∙ rw (p .0, p .1) refl)
 
-  pub text-call : (s : List ℕ) (at i k : ℕ) (b : Base) {e : Ended} {u : List ℕ} {r : ℕ} → i < rowCount l → isKind l callRow i ≡ true → e ≡ endOf t ix b (callAt i) → Puts s at (endLine k (e .end) (e .row) (e .results)) u r
-      → placed s at (textAt i k b) ≡ placed u r (textAt (i + 1) (k + 1) (e .base))
-  unfolding textFrom
-  text-call s at i k b {e} h q d p =
-      rw (call-here l i (rowCount l) h q, ← d) (placed-append s at (endLine k (e .end) (e .row) (e .results)) (textAt (i + 1) (k + 1) (e .base)) ∙ rw (p .0, p .1) refl)
+    pub text-other : i < rowCount l → isKind l callRow i ≡ false → placed buffer at (textAt i k cs ks s) ≡ placed buffer at (textAt (i + 1) k cs ks s)
+    text-other h q = rw (call-not l i (rowCount l) h q) refl
 
-  pub text-other : (s : List ℕ) (at i k : ℕ) (b : Base) → i < rowCount l → isKind l callRow i ≡ false → placed s at (textAt i k b) ≡ placed s at (textAt (i + 1) k b)
-  text-other s at i k b h q = rw (call-not l i (rowCount l) h q) refl
+    pub text-done : (first : List ℕ) {u : List ℕ} {r : ℕ} → rowCount l ≤ i → placed first 0 (textIn t ix l) ≡ placed buffer at (textAt i k cs ks s)
+        → Puts buffer at (mentryLines (roomsIn cs) (entriesIn cs (s .entries))) u r → Puts first 0 (textIn t ix l) u r
+    unfolding textFrom storeText
+    text-done first h e p =
+        let q : textAt i k cs ks s ≡ storeText cs s = rw (calls-end l i (rowCount l) h) refl in
+        rw (e, q) p
 
-  pub text-done : (s s′ : List ℕ) (at i k : ℕ) (b : Base) {u : List ℕ} {r : ℕ} → rowCount l ≤ i → placed s 0 (textIn t ix l) ≡ placed s′ at (textAt i k b)
-      → Puts s′ at (mentryLines (roomsOf roomView (b .rooms) (b .used)) (newestFirst (b .store .entries) (places (b .store .count)))) u r → Puts s 0 (textIn t ix l) u r
-  unfolding textFrom storeText
-  text-done s s′ at i k b h e p =
-      let q : textAt i k b ≡ storeText b = rw (calls-end l i (rowCount l) h) refl in
-      rw (e, q) p
-
-  pub text-start : textIn t ix l ≡ textAt 0 0 emptyBase
+  pub text-start : textIn t ix l ≡ textAt 0 0 (cellsOf (replicate 1824 0) (replicate 1824 0)) (cellsOf (replicate 1824 0) (replicate 1824 0)) start
   unfolding textIn callsOf
-  text-start = let q : rowCount l - 0 ≡ rowCount l = omega arith in rw q refl
+  text-start = let q : rowCount l - 0 ≡ rowCount l = omega arith in rw (q, cells-empty 1824) refl

@@ -1,18 +1,12 @@
 // Running a list of calls over a table: the table, the list and the buffer are judged first, and only then is anything run.
 ghost use mathlib.Core.Path.{_≡_};
 ghost use mathlib.Core.List.{List};
-ghost use Prim.Native.Nat.{_+_, _-_};
-ghost use Rattle.table.specs.Rows.{rowCount};
 ghost use Rattle.rules.specs.Machine.{Entry};
-ghost use Rattle.rules.specs.Calls.{arguments};
 ghost use Rattle.rules.specs.Run.{runOf};
 ghost use Rattle.text.specs.Placing.{placed};
-ghost use Rattle.running.specs.Stands.{endLine};
-ghost use Rattle.runs.specs.Lists.{firstOf, textIn};
-use cells::Frame;
-use cells::Operand;
-use running::Base;
-use running::End;
+ghost use Rattle.state.specs.Cells.{cellsOf};
+ghost use Rattle.runs.specs.Lists.{resultsIn, endLine, lineOf, textIn};
+use state::frames::State;
 use table::Verdict;
 use table::format;
 use table::index::Index;
@@ -22,39 +16,68 @@ pub const MIN_TEXT: usize = 65536;
 
 const SHORT_TEXT: u8 = 17;
 
-// The first frame of the call at row i of a list: its arguments are the rows below.
-fn first_frame(list: &[u8], i: usize, serial: u32, procedure: u8, count: usize) -> Frame
-    ensures { λ r. ⌜ r ≡ firstOf (arguments (now (list .entry)) (i + 1) (rowCount (now (list .entry)) - (i + 1))) serial procedure count ⌝ }
+// The results of a call that is done: the k top operands of its first frame, at most four.
+fn results_of(s: State, words: &[u64], tags: &[u8], k: usize) -> [u64; 4]
+    ensures { λ r. ⌜ r ≡ resultsIn (cellsOf (now (tags .entry)) (now (words .entry))) s k ⌝ }
 {
-    let mut frame = Frame::BLANK;
-    if list.len() / format::ROW_BYTES <= i {
-        return frame.enter(serial, procedure, 0, count);
+    let h = s.height as usize;
+    if h < k {
+        return [0u64; 4];
     }
-    let n = calls::argument_count(list, i);
-    let mut k: usize = 0;
-    while k < n {
-        frame = frame.push(Operand::Number(table::row_at(list, i + 1 + k).d));
-        k += 1;
-    }
-    frame.enter(serial, procedure, n, count)
+    let first = h - k;
+    [
+        state::number_at(words, tags, first),
+        state::number_at(words, tags, first + 1),
+        state::number_at(words, tags, first + 2),
+        state::number_at(words, tags, first + 3),
+    ]
 }
 
-// Puts the line of a call.
+// Puts the line of a call that ended so: it is done with its results, or it stopped at a row.
 fn put_end(
     text: &mut [u8],
     at: usize,
     call: usize,
-    end: End,
+    stop: u8,
     row: usize,
     results: [u64; 4],
+    count: usize,
 ) -> usize
-    ensures { λ r. ⌜ (now (text .exit) ≡ (placed (now (text .entry)) at (endLine call end row results)) .buffer) × (r ≡ (placed (now (text .entry)) at (endLine call end row results)) .end) ⌝ }
+    ensures { λ r. ⌜ (now (text .exit) ≡ (placed (now (text .entry)) at (endLine call stop row results count)) .buffer) × (r ≡ (placed (now (text .entry)) at (endLine call stop row results count)) .end) ⌝ }
 {
-    match end {
-        End::Done(count) => text::put_done(text, at, call, results, count),
-        End::Stop(number) => text::put_stop(text, at, call, number, row),
-        End::Broken => at,
+    if stop == frames::DONE {
+        return text::put_done(text, at, call, results, count);
     }
+    if stop == frames::BROKEN {
+        return at;
+    }
+    text::put_stop(text, at, call, stop, row)
+}
+
+// Puts the line of the call that ended in a state.
+fn put_call(
+    text: &mut [u8],
+    at: usize,
+    call: usize,
+    s: State,
+    words: &[u64],
+    tags: &[u8],
+    index: Index,
+) -> usize
+    ensures { λ r. ⌜ (now (text .exit) ≡ (placed (now (text .entry)) at (lineOf index call (cellsOf (now (tags .entry)) (now (words .entry))) s)) .buffer) × (r ≡ (placed (now (text .entry)) at (lineOf index call (cellsOf (now (tags .entry)) (now (words .entry))) s)) .end) ⌝ }
+{
+    let own = calls::procedure_in(index, s.procedure as usize);
+    let count = steps::results_of(own) as usize;
+    let results = results_of(s, words, tags, count);
+    put_end(
+        text,
+        at,
+        call,
+        s.stop,
+        (own.code as usize) + (s.at as usize),
+        results,
+        count,
+    )
 }
 
 // Runs the calls of a list over a table and puts their text; the place after it.
@@ -62,39 +85,35 @@ fn run_calls(table: &[u8], list: &[u8], index: Index, text: &mut [u8]) -> usize
     ensures { λ r. ⌜ (now (text .exit) ≡ (placed (now (text .entry)) 0 (textIn (now (table .entry)) index (now (list .entry)))) .buffer) × (r ≡ (placed (now (text .entry)) 0 (textIn (now (table .entry)) index (now (list .entry)))) .end) ⌝ }
 {
     let rows = list.len() / format::ROW_BYTES;
-    let mut base = Base::EMPTY;
+    let mut words = [0u64; 1824];
+    let mut tags = [0u8; 1824];
+    let mut to = [0u64; 1824];
+    let mut marks = [0u8; 1824];
+    let mut s = State::START;
     let mut end: usize = 0;
     let mut call: usize = 0;
     let mut i: usize = 0;
     while i < rows {
         if table::kind_at(list, i) == calls::CALL {
-            let row = table::row_at(list, i);
-            let callee = calls::procedure_in(index, row.b as usize);
-            let serial = base.frames;
-            let first = first_frame(
+            s = interpreter::call(
+                s,
+                &mut words,
+                &mut tags,
+                &mut to,
+                &mut marks,
+                table,
+                index,
                 list,
                 i,
-                serial,
-                (row.b % 256) as u8,
-                program::local_count(callee),
             );
-            base.frames = running::next_serial(serial);
-            let ended = running::run_call(table, index, first, row.c as usize, base);
-            let how = ended.end;
-            let results = ended.results;
-            end = put_end(text, end, call, how, ended.row, results);
-            base = ended.base;
+            end = put_call(text, end, call, s, &words, &tags, index);
             call += 1;
             i += 1;
         } else {
             i += 1;
         }
     }
-    let rooms = base.rooms;
-    let used = base.used;
-    let store = base.store;
-    let entries = store.entries;
-    stores::put_entries(text, end, rooms, &used, entries, store.count)
+    stores::put_entries(text, end, &words, &tags, s.entries)
 }
 
 // Judges the table, then the list, then the buffer, and runs the calls: a refusal, or the length of the text, which stands at the buffer's start.

@@ -48,7 +48,7 @@ fn between(from: u32, to: u32) -> u16
 }
 
 // How many fields a type, and how many parameters and results a procedure has.
-fn fields_of(y: TypeEntry) -> u16
+pub fn fields_of(y: TypeEntry) -> u16
     ensures { λ r. ⌜ r ≡ y .end - (y .row + 1) ⌝ }
 {
     between((y.row as u32) + 1, y.end as u32)
@@ -66,7 +66,7 @@ pub fn parameters_of(table: &[u8], p: ProcedureEntry) -> u16
     }
 }
 
-fn results_of(p: ProcedureEntry) -> u16
+pub fn results_of(p: ProcedureEntry) -> u16
     ensures { λ r. ⌜ r ≡ p .code - p .results ⌝ }
 {
     between(p.results as u32, p.code as u32)

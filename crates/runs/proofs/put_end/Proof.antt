@@ -1,52 +1,23 @@
 use mathlib.Core.List.{[]}
+use borrow.Author.Tests.{eq-eqb, ne-eqb}
 use Rattle.rules.specs.Machine.{state}
 use Rattle.text.proofs.Placing.{puts-none}
-use native.Mathlib.Omega.{arith}
+use Rattle.runs.specs.Lists.{endLine}
 use borrow.Author.Needs.{needs}
 use Rattle.runs.proofs.put_end.Statement.{statement}
 use Rattle.runs.proofs.put_end.Tie as tie
 
-enum-known-end : tie.Need-enum-known-end
-enum-known-end c = search needs
-
-put-done-requires : tie.Need-put-done-requires
-put-done-requires c κs = search needs
-
-enum-known-end-2 : tie.Need-enum-known-end-2
-enum-known-end-2 c = search needs
-
-put-stop-requires : tie.Need-put-stop-requires
-put-stop-requires c κs = search needs
-
-enum-told : tie.Need-enum-told
-enum-told c = search needs
-
-same-length : tie.Need-same-length
-same-length c = search needs
-
 returns : tie.Need-returns
-returns c = rw (c .before .before .before .before .before .end .given .1) (c .before .before .put-done .ensures (c .before .before .before .before .before .before .before .before .args .row) (state [] [] [] 0))
-
-same-length-2 : tie.Need-same-length-2
-same-length-2 c = search needs
+unfolding endLine
+returns c = rw (eq-eqb _ _ (c .before .before .before .before .if1 .taken)) (c .before .before .put-done .ensures (c .before .before .before .before .before .before .args .row) (state [] [] [] 0))
 
 returns-2 : tie.Need-returns-2
-returns-2 c = rw (c .before .before .before .before .before .end2 .given .1) (c .before .before .put-stop .ensures)
+unfolding endLine
+returns-2 c = rw (ne-eqb _ _ (c .before .if1 .left), eq-eqb _ _ (c .if2 .taken)) (puts-none _ _)
 
 returns-3 : tie.Need-returns-3
-returns-3 c = rw (c .enum-told .given .1) (puts-none _ _)
+unfolding endLine
+returns-3 c = rw (ne-eqb _ _ (c .before .before .before .before .before .if1 .left), ne-eqb _ _ (c .before .before .before .before .if2 .left)) (c .before .before .put-stop .ensures)
 
 pub put-end-spec : {M : Type 1} → statement M
-put-end-spec =
-    tie.close
-    (tie.spec
-    enum-known-end
-    put-done-requires
-    enum-known-end-2
-    put-stop-requires
-    enum-told
-    same-length
-    returns
-    same-length-2
-    returns-2
-    returns-3)
+put-end-spec = tie.close (tie.spec (λ c κs. search needs) (λ c. search needs) returns returns-2 (λ c κs. search needs) (λ c. search needs) returns-3)

@@ -5,59 +5,17 @@ use borrow.Author.Needs.{needs}
 use Rattle.runs.proofs.run_list.Statement.{statement}
 use Rattle.runs.proofs.run_list.Tie as tie
 
-judge-table-requires : tie.Need-judge-table-requires
-judge-table-requires c κs = search needs
-
-enum-known-judged : tie.Need-enum-known-judged
-enum-known-judged c = search needs
-
 returns : tie.Need-returns
 returns c = table-refused _ _ _ _ _ (sym (c .before .before .before .judge-table .ensures) ∙ c .before .judged .given .1)
-
-enum-told : tie.Need-enum-told
-enum-told c = search needs
-
-index-of-requires : tie.Need-index-of-requires
-index-of-requires c κs = search needs
-
-list-verdict-requires : tie.Need-list-verdict-requires
-list-verdict-requires c κs = search needs
-
-enum-known-listed : tie.Need-enum-known-listed
-enum-known-listed c = search needs
 
 returns-2 : tie.Need-returns-2
 returns-2 c = list-refused _ _ _ _ _ _ (c .before .before .before .before .index-of .ensures) (sym (c .before .before .before .before .before .before .before .judge-table .ensures) ∙ c .before .before .before .before .before .enum-told .given .1) (sym (c .before .before .before .list-verdict .ensures) ∙ c .before .listed .given .1)
 
-enum-told-2 : tie.Need-enum-told-2
-enum-told-2 c = search needs
-
 returns-3 : tie.Need-returns-3
 returns-3 c = buffer-refused _ _ _ _ _ (c .before .before .before .before .index-of .ensures) (sym (c .before .before .before .before .before .before .before .judge-table .ensures) ∙ c .before .before .before .before .before .enum-told .given .1) (sym (c .before .before .before .list-verdict .ensures) ∙ c .before .enum-told2 .given .1) (c .if1 .taken)
-
-run-calls-requires : tie.Need-run-calls-requires
-run-calls-requires c κs = search needs
-
-same-length : tie.Need-same-length
-same-length c = search needs
 
 returns-4 : tie.Need-returns-4
 returns-4 c = runs _ _ _ _ _ (c .before .before .before .before .before .before .before .before .index-of .ensures) (sym (c .before .before .before .before .before .before .before .before .before .before .before .judge-table .ensures) ∙ c .before .before .before .before .before .before .before .before .before .enum-told .given .1) (sym (c .before .before .before .before .before .before .before .list-verdict .ensures) ∙ c .before .before .before .before .before .enum-told2 .given .1) (λ i. omega (arith, c .before .before .before .before .before .before .before .before .before .before .before .before .before .before .shared-slice-known .given i)) (λ i. omega (arith, c .before .before .before .before .before .before .before .before .before .before .before .before .before .shared-slice-known2 .given i)) (c .before .before .before .before .if1 .left) (c .before .before .run-calls .ensures)
 
 pub run-list-spec : {M : Type 1} → statement M
-run-list-spec =
-    tie.close
-    (tie.spec
-    judge-table-requires
-    enum-known-judged
-    returns
-    enum-told
-    index-of-requires
-    list-verdict-requires
-    enum-known-listed
-    returns-2
-    enum-told-2
-    returns-3
-    run-calls-requires
-    same-length
-    returns-4)
+run-list-spec = tie.close (tie.spec (λ c κs. search needs) (λ c. search needs) returns (λ c. search needs) (λ c κs. search needs) (λ c κs. search needs) (λ c. search needs) returns-2 (λ c. search needs) returns-3 (λ c κs. search needs) (λ c. search needs) returns-4)

@@ -1,51 +1,42 @@
--- `stores::put_entries` meets its contract: the text of the rooms laid out is that of the rooms.
+-- `stores::put_entries` meets its contract. The lines of the first i entries are left.
 use borrow.Author.Needs.{needs}
-use mathlib.Core.Path.{_≡_}
+use native.Mathlib.Omega.{arith}
+use Prim.Native.Nat.{ℕ, suc, _-_}
+use mathlib.Core.Path.{_≡_, refl, _∙_}
+use mathlib.Core.List.{List}
 use lib.ListN.{length}
-use Rattle.machine.specs.Lists.{mentryLines}
-use Rattle.machine.specs.Views.{roomView}
-use Rattle.memory.specs.Entries.{places}
-use Rattle.memory.specs.Views.{roomsOf, newestFirst}
-use Rattle.memory.proofs.Laws.{places-most}
-use Rattle.text.proofs.Placing.{puts-same}
-use Rattle.stores.specs.Flat.{roomsIn}
-use Rattle.stores.proofs.Laws.{lines-alike}
+use Rattle.state.specs.Cells.{cellsOf}
+use Rattle.machine.specs.Lists.{mentryLine, mentryLines}
+use Rattle.machine.specs.Views.{roomsIn, entryIn, entriesIn}
+use Rattle.text.specs.Placing.{placed}
+use Rattle.text.proofs.Placing.{Puts}
+use Rattle.stores.proofs.Laws.{lines-more, lines-done}
 use Rattle.stores.proofs.put_entries.Statement.{statement}
 use Rattle.stores.proofs.put_entries.Tie as tie
 
-serials-of-requires : tie.Need-serials-of-requires
-serials-of-requires c κs = search needs
+-- the lines of the first i entries
+abbrev lines : List ℕ → List ℕ → ℕ → List ℕ
+lines tags words i = mentryLines (roomsIn (cellsOf tags words)) (entriesIn (cellsOf tags words) i)
 
-words-of-requires : tie.Need-words-of-requires
-words-of-requires c κs = search needs
+abbrev Inv-loop : tie.InvT-loop
+Inv-loop text₀ at words tags count end₀ i₀ text end i = (length text ≡ length text₀) × (placed text₀ at (lines tags words count) ≡ placed text end (lines tags words i))
 
-places-requires : tie.Need-places-requires
-places-requires c κs = search needs
+abbrev μ-loop : tie.MeasureT-loop
+μ-loop text₀ at words tags count end₀ i₀ text end i = i
 
-put-lines-requires : tie.Need-put-lines-requires
-put-lines-requires c κs = rw (c .places .ensures) (places-most _ .1)
+loop-again : tie.Need-loop-again Inv-loop μ-loop
+loop-again c =
+    let l = c .before .before .before .before .before .loop in
+    let q : l .i ≡ suc (l .i - 1) = omega arith in
+    let cs = cellsOf (c .before .before .before .before .before .before .before .before .before .args .tags .now) (c .before .before .before .before .before .before .before .before .before .args .words .now) in
+    let line : Puts (l .text) (l .end) (mentryLine (roomsIn cs) (entryIn cs (l .i - 1))) (c .before .before .put-entry .last .0) (c .before .before .put-entry .result) = c .before .before .put-entry .ensures in
+    (search needs, l .inv .1 ∙ lines-more _ _ (l .i) (l .i - 1) _ _ q line)
 
-same-length : tie.Need-same-length
-same-length c = search needs
-
-returns : tie.Need-returns
+returns : tie.Need-returns Inv-loop μ-loop
 returns c =
-    let a = c .before .before .before .before .before .before .before .before .before .before .before .args in
-    let s = c .before .before .before .before .before .before .before .before .serials-of in
-    let w = c .before .before .before .before .before .before .before .words-of in
-    let n = c .before .before .before .places in
-    let l : length (a .rooms) ≡ 128 = search needs in
-    let e : mentryLines (roomsIn (s .result) (w .result)) (newestFirst (a .entries) (n .result)) ≡ mentryLines (roomsOf roomView (a .rooms) (a .used .now)) (newestFirst (a .entries) (places (a .count)))
-    = rw (s .ensures .0, w .ensures, n .ensures) (lines-alike (a .rooms) (a .used .now) l (s .ensures .1) _) in
-    puts-same _ _ e (c .before .before .put-lines .ensures)
+    let l = c .before .loop in
+    let q : l .i ≡ 0 = omega arith in
+    lines-done _ _ (l .i) _ _ _ _ _ q (l .inv .1)
 
 pub put-entries-spec : {M : Type 1} → statement M
-put-entries-spec =
-    tie.close
-    (tie.spec
-    serials-of-requires
-    words-of-requires
-    places-requires
-    put-lines-requires
-    same-length
-    returns)
+put-entries-spec = tie.close (tie.spec Inv-loop μ-loop (λ c. (refl, refl)) (λ c. search needs) (λ c κs. search needs) (λ c. search needs) loop-again (λ c. search needs) returns)

@@ -6,23 +6,9 @@ use Rattle.text.proofs.Placing.{puts-more}
 use Rattle.stores.proofs.put_type.Statement.{statement}
 use Rattle.stores.proofs.put_type.Tie as tie
 
-slice-aggregate-put-word : tie.Need-slice-aggregate-put-word
-slice-aggregate-put-word c = search needs
-
-put-word-requires : tie.Need-put-word-requires
-put-word-requires c κs = search needs
-
-put-decimal-requires : tie.Need-put-decimal-requires
-put-decimal-requires c κs = search needs
-
-same-length : tie.Need-same-length
-same-length c = search needs
-
 returns : tie.Need-returns
 unfolding ascii
 returns c = puts-more _ _ (ascii " (") (decimal (c .before .before .before .before .before .before .before .before .before .before .args .kind)) _ _ (c .before .before .before .before .before .before .put-word .ensures) (c .before .before .put-decimal .ensures)
 
 pub put-type-spec : {M : Type 1} → statement M
-put-type-spec =
-    tie.close
-    (tie.spec slice-aggregate-put-word put-word-requires put-decimal-requires same-length returns)
+put-type-spec = tie.close (tie.spec (λ c. search needs) (λ c κs. search needs) (λ c κs. search needs) (λ c. search needs) returns)

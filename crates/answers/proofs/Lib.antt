@@ -1,5 +1,0 @@
-pub mod Frames
-pub mod Leads
-pub mod Meaning
-pub mod Results
-pub mod Stands

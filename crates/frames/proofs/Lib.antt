@@ -1,0 +1,4 @@
+pub mod Settles
+pub mod StackArms
+pub mod OperationsArms
+pub mod ControlArms

@@ -1,0 +1,218 @@
+// A call of a list: it begins, its instructions are run within its budget, and after a stop what lasts from call to call is as it was.
+ghost use mathlib.Core.Path.{_≡_};
+ghost use Prim.Native.Nat.{_+_, _-_, _≤_};
+ghost use lib.ListN.{length};
+ghost use Rattle.table.specs.Rows.{rowAt, rowCount};
+ghost use Rattle.program.specs.Program.{codeOf};
+ghost use Rattle.rules.specs.Calls.{arguments, call};
+ghost use Rattle.state.specs.Cells.{cellsOf};
+ghost use Rattle.frames.specs.Turning.{after};
+ghost use Rattle.interpreter.specs.Run.{runFrom};
+ghost use Rattle.frames.specs.Control.{within};
+ghost use Rattle.interpreter.specs.Calls.{carried, kept, keptOf, freed, filled, begun, restoredTo, callTurn};
+use state::frames::State;
+use table::Row;
+use table::format;
+use table::index::Index;
+use table::index::ProcedureEntry;
+
+// The budget is spent.
+const BUDGET_SPENT: u8 = 31;
+
+// Instruction i of a procedure.
+fn instruction_at(table: &[u8], own: ProcedureEntry, i: u16) -> Row
+    ensures { λ r. ⌜ r ≡ rowAt (codeOf (now (table .entry)) own) i ⌝ }
+{
+    let code = table::procedures::part(table, own.code as usize, own.end as usize);
+    table::row_at(code, i as usize)
+}
+
+// Runs instructions until the call ends or its budget is spent.
+pub fn run(
+    s: State,
+    words: &mut [u64],
+    tags: &mut [u8],
+    table: &[u8],
+    index: Index,
+    budget: u32,
+) -> State
+    ensures { λ r. ⌜ after r (cellsOf (now (tags .exit)) (now (words .exit))) ≡ runFrom (now (table .entry)) index budget (cellsOf (now (tags .entry)) (now (words .entry))) s ⌝ }
+{
+    let mut now = s;
+    let mut left = budget;
+    while 0 < left {
+        left -= 1;
+        let own = index.procedure_entries[(now.procedure % 128) as usize];
+        let row = instruction_at(table, own, now.at);
+        let named = index.type_entries[(row.b % 64) as usize];
+        let callee = index.procedure_entries[(row.b % 128) as usize];
+        now = step::step(now, words, tags, table, row, own, named, callee);
+        if now.stop != 0 {
+            return now;
+        }
+    }
+    now.stopped(BUDGET_SPENT)
+}
+
+// Copies k numbers from place `at` on.
+fn copy_words(to: &mut [u64], from: &[u64], at: usize, k: usize)
+    requires { ⌜ (at + k ≤ length (now to)) × (at + k ≤ length (now from)) ⌝ }
+    ensures { λ _. ⌜ now (to .exit) ≡ carried 0 (now (to .entry)) (now (from .entry)) at k ⌝ }
+{
+    let mut j: usize = 0;
+    while j < k {
+        to[at + j] = from[at + j];
+        j += 1;
+    }
+}
+
+fn copy_tags(to: &mut [u8], from: &[u8], at: usize, k: usize)
+    requires { ⌜ (at + k ≤ length (now to)) × (at + k ≤ length (now from)) ⌝ }
+    ensures { λ _. ⌜ now (to .exit) ≡ carried 0 (now (to .entry)) (now (from .entry)) at k ⌝ }
+{
+    let mut j: usize = 0;
+    while j < k {
+        to[at + j] = from[at + j];
+        j += 1;
+    }
+}
+
+// Copies the k cells from cell `at` on, where they are in both.
+fn keep(to: &mut [u64], marks: &mut [u8], words: &[u64], tags: &[u8], at: u16, k: u16)
+    ensures { λ _. ⌜ cellsOf (now (marks .exit)) (now (to .exit)) ≡ kept (cellsOf (now (marks .entry)) (now (to .entry))) (cellsOf (now (tags .entry)) (now (words .entry))) at k ⌝ }
+{
+    let from = at as usize;
+    let n = k as usize;
+    let end = from + n;
+    if to.len() < end {
+        return;
+    }
+    if marks.len() < end {
+        return;
+    }
+    if words.len() < end {
+        return;
+    }
+    if tags.len() < end {
+        return;
+    }
+    copy_words(to, words, from, n);
+    copy_tags(marks, tags, from, n);
+}
+
+// Copies the entries and the rooms of a state.
+fn keep_memory(to: &mut [u64], marks: &mut [u8], words: &[u64], tags: &[u8], s: State)
+    ensures { λ _. ⌜ cellsOf (now (marks .exit)) (now (to .exit)) ≡ keptOf (cellsOf (now (marks .entry)) (now (to .entry))) (cellsOf (now (tags .entry)) (now (words .entry))) s ⌝ }
+{
+    keep(to, marks, words, tags, 544, 2 * (s.entries as u16));
+    keep(to, marks, words, tags, 672, 9 * (s.rooms as u16));
+}
+
+// Empties the heads of n rooms from room r on.
+fn free_rooms(words: &[u64], tags: &mut [u8], r: u8, n: u8)
+    ensures { λ _. ⌜ cellsOf (now (tags .exit)) (now (words .entry)) ≡ freed (cellsOf (now (tags .entry)) (now (words .entry))) r n ⌝ }
+{
+    let mut j: u8 = 0;
+    while j < n {
+        state::clear(words, tags, 672 + 9 * ((r as usize) + (j as usize)));
+        j += 1;
+    }
+}
+
+// Puts numbers into cells: the arguments of the call at row i of a list.
+fn put_arguments(words: &mut [u64], tags: &mut [u8], list: &[u8], i: usize)
+    ensures { λ _. ⌜ cellsOf (now (tags .exit)) (now (words .exit)) ≡ filled (cellsOf (now (tags .entry)) (now (words .entry))) 16 (arguments (now (list .entry)) (i + 1) (rowCount (now (list .entry)) - (i + 1))) ⌝ }
+{
+    if list.len() / format::ROW_BYTES <= i {
+        return;
+    }
+    let n = calls::argument_count(list, i);
+    let mut k: usize = 0;
+    while k < n {
+        state::put(
+            words,
+            tags,
+            16 + k,
+            state::NUMBER,
+            table::row_at(list, i + 1 + k).d,
+        );
+        k += 1;
+    }
+}
+
+// The state in which a call begins.
+fn begin(mut s: State, procedure: u16, count: u8) -> State
+    ensures { λ r. ⌜ r ≡ begun s procedure count ⌝ }
+{
+    s.serial = s.frames;
+    s.procedure = procedure;
+    s.at = 0;
+    s.depth = 0;
+    s.height = 0;
+    s.count = count;
+    s.stop = 0;
+    s.frames = state::frames::next_serial(s.frames);
+    s
+}
+
+// n less k.
+fn less(n: u8, k: u8) -> u8
+    ensures { λ r. ⌜ r ≡ n - k ⌝ }
+{
+    if k <= n { n - k } else { 0 }
+}
+
+// After a call: where it is not done, entries and rooms are those of its beginning.
+fn restore(
+    s: State,
+    words: &mut [u64],
+    tags: &mut [u8],
+    to: &[u64],
+    marks: &[u8],
+    first: State,
+) -> State
+    ensures { λ r. ⌜ after r (cellsOf (now (tags .exit)) (now (words .exit))) ≡ restoredTo (cellsOf (now (marks .entry)) (now (to .entry))) first (after s (cellsOf (now (tags .entry)) (now (words .entry)))) ⌝ }
+{
+    if s.stop == frames::DONE {
+        return s;
+    }
+    keep_memory(words, tags, to, marks, first);
+    free_rooms(words, tags, first.rooms, less(s.rooms, first.rooms));
+    let mut last = s;
+    last.entries = first.entries;
+    last.rooms = first.rooms;
+    last.free = first.free;
+    last
+}
+
+// The call at row i of a list.
+pub fn call(
+    s: State,
+    words: &mut [u64],
+    tags: &mut [u8],
+    to: &mut [u64],
+    marks: &mut [u8],
+    table: &[u8],
+    index: Index,
+    list: &[u8],
+    i: usize,
+) -> State
+    ensures { λ r. ⌜ (after r (cellsOf (now (tags .exit)) (now (words .exit))) ≡ callTurn (now (table .entry)) index (cellsOf (now (tags .entry)) (now (words .entry))) (cellsOf (now (marks .entry)) (now (to .entry))) s (call (rowAt (now (list .entry)) i .b) (rowAt (now (list .entry)) i .c) (arguments (now (list .entry)) (i + 1) (rowCount (now (list .entry)) - (i + 1))))) × (cellsOf (now (marks .exit)) (now (to .exit)) ≡ keptOf (cellsOf (now (marks .entry)) (now (to .entry))) (cellsOf (now (tags .entry)) (now (words .entry))) s) ⌝ }
+{
+    let row = table::row_at(list, i);
+    let callee = calls::procedure_in(index, row.b as usize);
+    let count = within(program::local_count(callee));
+    keep_memory(to, marks, words, tags, s);
+    state::empty_cells(words, tags, 16, count as u16);
+    put_arguments(words, tags, list, i);
+    let first = begin(s, row.b, count);
+    let last = run(first, words, tags, table, index, row.c);
+    restore(last, words, tags, to, marks, first)
+}
+
+// n, at most 16.
+fn within(n: usize) -> u8
+    ensures { λ r. ⌜ r ≡ within n ⌝ }
+{
+    if n <= 16 { n as u8 } else { 16 }
+}

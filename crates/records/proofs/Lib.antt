@@ -1,0 +1,2 @@
+pub mod PackingArms
+pub mod PublishedArms

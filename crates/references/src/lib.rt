@@ -1,0 +1,2 @@
+// The instructions that work through references: ReadRef, WriteRef and BorrowFld.
+pub mod targets;

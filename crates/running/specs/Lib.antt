@@ -1,4 +1,0 @@
-pub mod Running
-pub mod Stands
-pub mod Quick
-pub mod Outcome

@@ -1,0 +1,4 @@
+pub mod Tests
+pub mod Coding
+pub mod Cells
+pub mod Searches
