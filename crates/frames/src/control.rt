@@ -10,7 +10,7 @@ use state::frames::State;
 use table::index::ProcedureEntry;
 
 // n, at most 16.
-fn within(n: usize) -> u8
+pub fn within(n: usize) -> u8
     ensures { λ r. ⌜ r ≡ within n ⌝ }
 {
     if n <= 16 { n as u8 } else { 16 }

@@ -8,7 +8,6 @@ ghost use Rattle.rules.specs.Calls.{arguments, call};
 ghost use Rattle.state.specs.Cells.{cellsOf};
 ghost use Rattle.frames.specs.Turning.{after};
 ghost use Rattle.interpreter.specs.Run.{runFrom};
-ghost use Rattle.frames.specs.Control.{within};
 ghost use Rattle.interpreter.specs.Calls.{carried, kept, keptOf, freed, filled, begun, restoredTo, callTurn};
 use state::frames::State;
 use table::Row;
@@ -155,13 +154,6 @@ fn begin(mut s: State, procedure: u16, count: u8) -> State
     s
 }
 
-// n less k.
-fn less(n: u8, k: u8) -> u8
-    ensures { λ r. ⌜ r ≡ n - k ⌝ }
-{
-    if k <= n { n - k } else { 0 }
-}
-
 // After a call: where it is not done, entries and rooms are those of its beginning.
 fn restore(
     s: State,
@@ -177,7 +169,12 @@ fn restore(
         return s;
     }
     keep_memory(words, tags, to, marks, first);
-    free_rooms(words, tags, first.rooms, less(s.rooms, first.rooms));
+    free_rooms(
+        words,
+        tags,
+        first.rooms,
+        state::frames::rest(s.rooms, first.rooms),
+    );
     let mut last = s;
     last.entries = first.entries;
     last.rooms = first.rooms;
@@ -201,18 +198,11 @@ pub fn call(
 {
     let row = table::row_at(list, i);
     let callee = calls::procedure_in(index, row.b as usize);
-    let count = within(program::local_count(callee));
+    let count = frames::control::within(program::local_count(callee));
     keep_memory(to, marks, words, tags, s);
     state::empty_cells(words, tags, 16, count as u16);
     put_arguments(words, tags, list, i);
     let first = begin(s, row.b, count);
     let last = run(first, words, tags, table, index, row.c);
     restore(last, words, tags, to, marks, first)
-}
-
-// n, at most 16.
-fn within(n: usize) -> u8
-    ensures { λ r. ⌜ r ≡ within n ⌝ }
-{
-    if n <= 16 { n as u8 } else { 16 }
 }

@@ -21,6 +21,7 @@ use Rattle.state.specs.Rooms.{isLive, firstFree}
 use Rattle.state.specs.Entries.{isUnder, lastUnder, addedIn, removedIn}
 use Rattle.machine.specs.Machine.{MRoom, mroom, MEntry, mentry, held, freeRoom, roomOf, putRoom, findEntry, dropEntry}
 use Rattle.machine.specs.Views.{upFrom, tab, roomBy, roomIn, roomsIn, entryIn, entriesIn, Same}
+use Rattle.machine.proofs.Targets.{put-room-set}
 use Rattle.machine.proofs.Views.{length-up, held-getD, tab-same, room-same, rooms-same, entries-same, same-refl, set-same, pair-same, pair-first, pair-next, length-moved, moved-other, moved-same, moved-there, up-at, up-set, up-shift}
 
 -- Tables
@@ -42,14 +43,6 @@ module _ {A : Type 0} (f : ℕ → A) where
   tab-set g b zero r s = refl
   tab-set g b (suc n) zero s = let e : b + 0 ≡ b = omega arith in rw (e, tab-same f g (suc b) n (λ i l m. s i (omega arith) (λ q. omega arith)))
   tab-set g b (suc n) (suc r) s = let e : b + suc r ≡ suc b + r = omega arith in rw (e, s b (omega arith) (λ q. omega arith), tab-set g (suc b) n r (λ i l q. s i (omega arith) (λ p. q (omega arith))))
-
--- a field put into a room that is in use
-put-room : (rooms : List (Option MRoom)) (r j s y : ℕ) (xs : List Operand) (x : Operand) → nth rooms r ≡ some (some (mroom s y xs)) → putRoom rooms r j x ≡ set rooms r (some (mroom s y (set xs j x)))
-put-room [] r j s y xs x e = refl
-put-room (none ∷ rooms) zero j s y xs x e = cc
-put-room (some (mroom a b ys) ∷ rooms) zero j s y xs x e = cc
-put-room (none ∷ rooms) (suc r) j s y xs x e = ap (λ (l : List (Option MRoom)). none ∷ l) (put-room rooms r j s y xs x e)
-put-room (some m ∷ rooms) (suc r) j s y xs x e = ap (λ (l : List (Option MRoom)). some m ∷ l) (put-room rooms r j s y xs x e)
 
 -- what stands at a place of some cells
 pub up-held : (cs : List Operand) (b n i : ℕ) → held (nth (upFrom cs b n) i) ≡ cond (ltb i n) (getD cs (b + i) Empty) Empty
@@ -153,7 +146,7 @@ module _ (cs : List Operand) (whole : length cs ≡ allCells) (few : (r : ℕ) �
       here (Record s k y) e l f n =
           rooms-one (set cs (roomCell m + 1 + j) x) m (λ i o. getD-set-other cs (roomCell m + 1 + j) i x Empty (off i o))
           ∙ rw (getD-set-other cs (roomCell m + 1 + j) (roomCell m) x Empty (λ q. omega arith), e, up-set cs (roomCell m + 1) k j x (omega arith))
-          (sym (put-room (roomsIn cs) m j s y (upFrom cs (roomCell m + 1) k) x (room-at cs m n ∙ rw e)))
+          (sym (put-room-set (roomsIn cs) m j s y (upFrom cs (roomCell m + 1) k) x (room-at cs m n ∙ rw e)))
         where
           off : (i : ℕ) → (i < roomCell m) ⊎ (roomCell m + 9 ≤ i) → i ≡ roomCell m + 1 + j → ⊥
           off i (inl a) q = omega arith

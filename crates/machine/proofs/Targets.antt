@@ -119,7 +119,7 @@ free-used [] = (omega arith, omega arith, (λ l. l), (λ l. l))
 free-used (none ∷ rooms) = let z = free-used rooms in (omega arith, omega (arith, z .1), (λ l. omega (arith, z .1)), (λ l. omega arith))
 free-used (some x ∷ rooms) = let z = free-used rooms in (omega (arith, z .0), omega (arith, z .1), (λ l. omega (arith, z .2 (omega arith))), (λ l. omega (arith, z .3 (omega arith))))
 
-put-room-set : (rooms : List (Option MRoom)) (r j s y : ℕ) (xs : List Operand) (x : Operand) → nth rooms r ≡ some (some (mroom s y xs)) → putRoom rooms r j x ≡ set rooms r (some (mroom s y (set xs j x)))
+pub put-room-set : (rooms : List (Option MRoom)) (r j s y : ℕ) (xs : List Operand) (x : Operand) → nth rooms r ≡ some (some (mroom s y xs)) → putRoom rooms r j x ≡ set rooms r (some (mroom s y (set xs j x)))
 put-room-set [] r j s y xs x e = refl
 put-room-set (none ∷ rooms) zero j s y xs x e = absurd (clash (cc))
 put-room-set (some (mroom a b ys) ∷ rooms) zero j s y xs x e = cc

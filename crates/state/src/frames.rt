@@ -32,7 +32,7 @@ pub fn next_serial(n: u32) -> u32
 }
 
 // What is left of n without k, 0 where k is more.
-fn rest(n: u8, k: u8) -> u8
+pub fn rest(n: u8, k: u8) -> u8
     ensures { λ r. ⌜ r ≡ n - k ⌝ }
 {
     if k <= n { n - k } else { 0 }
