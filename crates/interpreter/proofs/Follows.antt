@@ -21,8 +21,8 @@ use Rattle.machine.specs.Machine.{MState, mstate, MOutcome, mnext, mfinished, m
 use Rattle.machine.specs.Runs.{mstep, mrow, MEnd, mend, monward, mgo}
 use Rattle.machine.specs.Lists.{MBase, mbase}
 use Rattle.machine.specs.Views.{operandsIn, roomsIn, entriesIn, viewOf}
-use Rattle.frames.specs.Turning.{Turning, after, done, broken, ends}
-use Rattle.frames.specs.Meaning.{outcomeBy, outcomeOf, Tidy, Stands, Kept}
+use Rattle.frame.specs.Turning.{Turning, after, done, broken, ends}
+use Rattle.frame.specs.Meaning.{outcomeBy, outcomeOf, Tidy, Stands, Kept}
 use Rattle.step.proofs.Shapes.{Bounded, Shape, finishes, stays, goes}
 use Rattle.interpreter.specs.Run.{onward, stepAt, runFrom}
 use Rattle.interpreter.proofs.Live.{Live, Numbers, LiveOutcome, live-step}

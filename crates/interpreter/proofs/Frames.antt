@@ -31,7 +31,7 @@ use Rattle.machine.specs.Represents.{ShowsAll, no-more, and, ShowsLocals, no-lo
 use Rattle.machine.specs.Views.{upFrom, downFrom, operandsIn, localsIn, frameIn, suspendedAt, belowIn, tab, roomBy, roomIn, roomsIn, entriesIn, viewOf}
 use Rattle.machine.proofs.Shows.{all-length}
 use Rattle.machine.proofs.Views.{length-up, length-down, length-below}
-use Rattle.frames.specs.Meaning.{Tidy, Stands}
+use Rattle.frame.specs.Meaning.{Tidy, Stands}
 use Rattle.interpreter.proofs.Live.{Live}
 
 -- a frame within its cells

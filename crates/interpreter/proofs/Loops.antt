@@ -15,8 +15,8 @@ use Rattle.state.specs.declared.Operand.{Operand}
 use Rattle.state.specs.declared.frames.State.{State}
 use Rattle.state.specs.Cells.{emptied}
 use Rattle.state.specs.Frames.{stoppedWith}
-use Rattle.frames.specs.Turning.{Turning, after}
-use Rattle.frames.specs.Control.{within}
+use Rattle.frame.specs.Turning.{Turning, after}
+use Rattle.frame.specs.Control.{within}
 use Rattle.step.specs.Step.{turnOf}
 use Rattle.interpreter.specs.Run.{procedureOf, typeOf, turnAt, rowOf, runFrom}
 use Rattle.interpreter.specs.Calls.{keptOf, filled, begun, restoredTo, callTurn}

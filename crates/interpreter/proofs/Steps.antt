@@ -25,16 +25,16 @@ use Rattle.machine.specs.Runs.{takesAt, did, mstep}
 use Rattle.machine.specs.Views.{downFrom, upFrom, operandsIn, viewOf}
 use Rattle.machine.proofs.Views.{length-up, length-down, top-is}
 use Rattle.machine.proofs.Memory.{headIn, room-of}
-use Rattle.frames.specs.Turning.{Turning, ends, broken}
+use Rattle.frame.specs.Turning.{Turning, ends, broken}
 use Rattle.step.specs.Step.{turns, turnOf}
-use Rattle.frames.specs.Meaning.{outcomeOf, doing, Stands, Kept}
+use Rattle.frame.specs.Meaning.{outcomeOf, doing, Stands, Kept}
 use Rattle.step.proofs.Shapes.{Each, _▸_, each-listed, Shape, turn-shape}
-use Rattle.frames.proofs.StackArms.{pop-is, pop-kept, const-is, const-kept, move-is, move-kept, copy-is, copy-kept, store-is, store-kept, borrow-is, borrow-kept}
+use Rattle.frame.proofs.StackArms.{pop-is, pop-kept, const-is, const-kept, move-is, move-kept, copy-is, copy-kept, store-is, store-kept, borrow-is, borrow-kept}
 use Rattle.references.proofs.TargetsArms.{read-is, read-kept, write-is, write-kept, borrow-field-is, borrow-field-kept}
 use Rattle.records.proofs.PackingArms.{pack-is, pack-kept, unpack-is, unpack-kept}
 use Rattle.records.proofs.PublishedArms.{move-to-is, move-to-kept, move-from-is, move-from-kept, global-is, global-kept, exists-is, exists-kept}
-use Rattle.frames.proofs.ControlArms.{call-is, call-kept, ret-is, ret-kept, branch-is, branch-kept, branch-cond-is, branch-cond-kept}
-use Rattle.frames.proofs.OperationsArms.{op-is, op-kept}
+use Rattle.frame.proofs.ControlArms.{call-is, call-kept, ret-is, ret-kept, branch-is, branch-kept, branch-cond-is, branch-cond-kept}
+use Rattle.frame.proofs.OperationsArms.{op-is, op-kept}
 use Rattle.interpreter.specs.Run.{procedureOf, typeOf, rowOf, turnAt, stepAt}
 use Rattle.interpreter.proofs.Live.{Live, LiveOutcome, live-step}
 use Rattle.interpreter.proofs.Frames.{live-low}

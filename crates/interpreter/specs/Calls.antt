@@ -13,8 +13,8 @@ use Rattle.state.specs.declared.frames.State.{State}
 use Rattle.state.specs.Cells.{emptied}
 use Rattle.state.specs.Layout.{roomCell}
 use Rattle.state.specs.Frames.{nextSerial}
-use Rattle.frames.specs.Turning.{Turning, after, done}
-use Rattle.frames.specs.Control.{within}
+use Rattle.frame.specs.Turning.{Turning, after, done}
+use Rattle.frame.specs.Control.{within}
 use Rattle.interpreter.specs.Run.{runFrom}
 
 -- the k members from place `at` on put in place of those of another list

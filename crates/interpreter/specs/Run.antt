@@ -14,7 +14,7 @@ use Rattle.program.specs.Program.{codeOf}
 use Rattle.rules.specs.Limits.{budgetSpent}
 use Rattle.state.specs.declared.Operand.{Operand}
 use Rattle.state.specs.declared.frames.State.{State}
-use Rattle.frames.specs.Turning.{Turning, after, ends}
+use Rattle.frame.specs.Turning.{Turning, after, ends}
 use Rattle.step.specs.Step.{turnOf}
 
 -- procedure p and type y

@@ -6,7 +6,7 @@ ghost use Rattle.table.specs.Rows.{rowAt, rowCount};
 ghost use Rattle.program.specs.Program.{codeOf};
 ghost use Rattle.rules.specs.Calls.{arguments, call};
 ghost use Rattle.state.specs.Cells.{cellsOf};
-ghost use Rattle.frames.specs.Turning.{after};
+ghost use Rattle.frame.specs.Turning.{after};
 ghost use Rattle.interpreter.specs.Run.{runFrom};
 ghost use Rattle.interpreter.specs.Calls.{carried, kept, keptOf, freed, filled, begun, restoredTo, callTurn};
 use state::frames::State;
@@ -165,7 +165,7 @@ fn restore(
 ) -> State
     ensures { λ r. ⌜ after r (cellsOf (now (tags .exit)) (now (words .exit))) ≡ restoredTo (cellsOf (now (marks .entry)) (now (to .entry))) first (after s (cellsOf (now (tags .entry)) (now (words .entry)))) ⌝ }
 {
-    if s.stop == frames::DONE {
+    if s.stop == frame::DONE {
         return s;
     }
     keep_memory(words, tags, to, marks, first);
@@ -198,7 +198,7 @@ pub fn call(
 {
     let row = table::row_at(list, i);
     let callee = calls::procedure_in(index, row.b as usize);
-    let count = frames::control::within(program::local_count(callee));
+    let count = frame::control::within(program::local_count(callee));
     keep_memory(to, marks, words, tags, s);
     state::empty_cells(words, tags, 16, count as u16);
     put_arguments(words, tags, list, i);

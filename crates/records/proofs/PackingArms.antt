@@ -25,10 +25,10 @@ use Rattle.machine.specs.Machine.{mframe, mroom, mstate, MOutcome, mnext, mstop
 use Rattle.machine.specs.Views.{upFrom, operandsIn, localsIn, belowIn, roomsIn, entriesIn, Same}
 use Rattle.machine.proofs.Views.{same-trans, below-same, rooms-same, entries-same, down-same, up-same, set-same, length-moved, moved-other, moved-same, top-is, drop-is, topmost-is, length-received, received-same, receive-operands, receive-locals}
 use Rattle.machine.proofs.Memory.{headIn, head-past, room-of, free-first, free-used, rooms-filled, rooms-cleared}
-use Rattle.frames.specs.Turning.{broken, ends}
+use Rattle.frame.specs.Turning.{broken, ends}
 use Rattle.records.specs.Packing.{packedState, unpackedState, packedIn, packOf, unpackedAt, unpackedTop, unpackOf}
-use Rattle.frames.specs.Meaning.{outcomeOf, doing, Tidy, Stands, Kept}
-use Rattle.frames.proofs.Settles.{next-is, settle-is, settle-kept, ends-kept}
+use Rattle.frame.specs.Meaning.{outcomeOf, doing, Tidy, Stands, Kept}
+use Rattle.frame.proofs.Settles.{next-is, settle-is, settle-kept, ends-kept}
 
 -- Pack: a record of type y made in room r of the k top operands
 module _ (cs : List Operand) (s : State) (st : Stands cs s) (k y r : ℕ) (enough : k ≤ s .height) (few : k ≤ 8) (inside : r < 128) where

@@ -24,11 +24,11 @@ use Rattle.machine.specs.Machine.{mframe, mentry, mstate, MOutcome, mnext, msto
 use Rattle.machine.specs.Views.{operandsIn, localsIn, belowIn, roomsIn, entryIn, entriesIn, Same}
 use Rattle.machine.proofs.Views.{length-entries, below-same, rooms-same, down-same, up-same, top-is, second-is, drop-is}
 use Rattle.machine.proofs.Memory.{find-is, length-added, added-same, entries-added, length-removed, removed-same, entries-removed}
-use Rattle.frames.specs.Turning.{Turning, after, broken, ends, settled}
-use Rattle.frames.specs.Operations.{numeralOf, withNumber}
+use Rattle.frame.specs.Turning.{Turning, after, broken, ends, settled}
+use Rattle.frame.specs.Operations.{numeralOf, withNumber}
 use Rattle.records.specs.Published.{withEntries, found, movedTo, moveToOf, moveFromOf, globalOf, existsOf}
-use Rattle.frames.specs.Meaning.{outcomeOf, doing, Stands, Kept}
-use Rattle.frames.proofs.Settles.{kept, next-is, settle-is, settle-kept, ends-kept}
+use Rattle.frame.specs.Meaning.{outcomeOf, doing, Stands, Kept}
+use Rattle.frame.proofs.Settles.{kept, next-is, settle-is, settle-kept, ends-kept}
 use Rattle.references.proofs.TargetsArms.{onward, number-is, number-kept}
 
 module _ (cs : List Operand) (s : State) (st : Stands cs s) where

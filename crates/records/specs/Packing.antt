@@ -13,7 +13,7 @@ use Rattle.state.specs.Cells.{moved}
 use Rattle.state.specs.Layout.{operandCell, roomCell}
 use Rattle.state.specs.Frames.{nextSerial, topAt, dropped, goneOn, received, receivedIn}
 use Rattle.state.specs.Rooms.{isLive, firstFree}
-use Rattle.frames.specs.Turning.{Turning, after, broken, ends, settled}
+use Rattle.frame.specs.Turning.{Turning, after, broken, ends, settled}
 
 -- a record made in room r, and the one in room m broken up: which rooms may be in use, and which may be free
 abbrev pub packedState : State → ℕ → State

@@ -14,8 +14,8 @@ use Rattle.state.specs.Coding.{firstOf, secondOf}
 use Rattle.state.specs.Layout.{entryCell}
 use Rattle.state.specs.Frames.{topAt, dropped, goneOn}
 use Rattle.state.specs.Entries.{lastUnder, addedIn, removedIn}
-use Rattle.frames.specs.Turning.{Turning, after, broken, ends, settled}
-use Rattle.frames.specs.Operations.{numeralOf, withNumber}
+use Rattle.frame.specs.Turning.{Turning, after, broken, ends, settled}
+use Rattle.frame.specs.Operations.{numeralOf, withNumber}
 
 abbrev pub withEntries : State → ℕ → State
 withEntries s n = record { serial = s .serial; procedure = s .procedure; at = s .at; depth = s .depth; height = s .height; count = s .count; stop = s .stop; records = s .records; frames = s .frames; entries = n; rooms = s .rooms; free = s .free }

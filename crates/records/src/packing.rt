@@ -2,7 +2,7 @@
 ghost use mathlib.Core.Path.{_≡_};
 ghost use Prim.Native.Nat.{_+_, _-_};
 ghost use Rattle.state.specs.Cells.{cellsOf};
-ghost use Rattle.frames.specs.Turning.{after};
+ghost use Rattle.frame.specs.Turning.{after};
 ghost use Rattle.records.specs.Packing.{packedState, packedIn, packOf, unpackedState, unpackedFrom, unpackOf};
 use state::Operand;
 use state::frames::State;
@@ -45,7 +45,7 @@ fn pack_in(s: State, words: &mut [u64], tags: &mut [u8], k: u8, y: u8, r: u8) ->
         state::RECORD,
         state::record_word(s.records, k, y),
     );
-    frames::operations::settle(
+    frame::operations::settle(
         packed(s, r),
         words,
         tags,
@@ -88,7 +88,7 @@ fn unpack_from(s: State, words: &mut [u64], tags: &mut [u8], c: u32, m: u8) -> S
     ensures { λ r. ⌜ after r (cellsOf (now (tags .exit)) (now (words .exit))) ≡ unpackedFrom (cellsOf (now (tags .entry)) (now (words .entry))) s c m ⌝ }
 {
     if !rooms::is_live(words, tags, c, m) {
-        return s.stopped(frames::BROKEN);
+        return s.stopped(frame::BROKEN);
     }
     let o = rooms::room_cell(m);
     let k = state::second_at(words, tags, o as usize);
@@ -103,9 +103,9 @@ pub fn unpack(s: State, words: &mut [u64], tags: &mut [u8]) -> State
 {
     let top = s.top(words, tags, 0);
     match top {
-        Operand::Empty => s.stopped(frames::BROKEN),
-        Operand::Number(_) => s.stopped(frames::BROKEN),
+        Operand::Empty => s.stopped(frame::BROKEN),
+        Operand::Number(_) => s.stopped(frame::BROKEN),
         Operand::Record(c, m, _) => unpack_from(s, words, tags, c, m),
-        Operand::Refer(_) => s.stopped(frames::BROKEN),
+        Operand::Refer(_) => s.stopped(frame::BROKEN),
     }
 }

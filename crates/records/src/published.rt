@@ -3,9 +3,9 @@ ghost use mathlib.Core.Path.{_≡_};
 ghost use lib.Dec.{ltb};
 ghost use Rattle.arithmetic.specs.Arithmetic.{truth};
 ghost use Rattle.state.specs.Cells.{cellsOf};
-ghost use Rattle.frames.specs.Turning.{after};
+ghost use Rattle.frame.specs.Turning.{after};
 ghost use Rattle.records.specs.Published.{withEntries, publishedAs, movedTo, moveToOf, takenOut, moveFromOf, globalAt, globalOf, existsOf};
-use frames::operations::Numeral;
+use frame::operations::Numeral;
 use state::Operand;
 use state::entries;
 use state::frames::State;
@@ -38,10 +38,10 @@ fn publish_operand(s: State, words: &mut [u64], tags: &mut [u8], y: u8, a: u64, 
     ensures { λ r. ⌜ after r (cellsOf (now (tags .exit)) (now (words .exit))) ≡ movedTo (cellsOf (now (tags .entry)) (now (words .entry))) s y a x ⌝ }
 {
     match x {
-        Operand::Empty => s.stopped(frames::BROKEN),
-        Operand::Number(_) => s.stopped(frames::BROKEN),
+        Operand::Empty => s.stopped(frame::BROKEN),
+        Operand::Number(_) => s.stopped(frame::BROKEN),
         Operand::Record(c, m, _) => publish(s, words, tags, y, a, c, m),
-        Operand::Refer(_) => s.stopped(frames::BROKEN),
+        Operand::Refer(_) => s.stopped(frame::BROKEN),
     }
 }
 
@@ -49,9 +49,9 @@ fn publish_operand(s: State, words: &mut [u64], tags: &mut [u8], y: u8, a: u64, 
 pub fn move_to(s: State, words: &mut [u64], tags: &mut [u8], b: u16) -> State
     ensures { λ r. ⌜ after r (cellsOf (now (tags .exit)) (now (words .exit))) ≡ moveToOf (cellsOf (now (tags .entry)) (now (words .entry))) s b ⌝ }
 {
-    let top = frames::operations::number_top(s, words, tags, 0);
+    let top = frame::operations::number_top(s, words, tags, 0);
     match top {
-        Numeral::None => s.stopped(frames::BROKEN),
+        Numeral::None => s.stopped(frame::BROKEN),
         Numeral::Is(a) => publish_operand(
             s,
             words,
@@ -78,17 +78,17 @@ fn withdraw(s: State, words: &mut [u64], tags: &mut [u8], y: u8, i: u8) -> State
         y,
     );
     entries::remove_entry(words, tags, n, i);
-    frames::operations::settle(with_entries(s, n - 1), words, tags, 1, state::RECORD, w)
+    frame::operations::settle(with_entries(s, n - 1), words, tags, 1, state::RECORD, w)
 }
 
 // MoveFrom.
 pub fn move_from(s: State, words: &mut [u64], tags: &mut [u8], b: u16) -> State
     ensures { λ r. ⌜ after r (cellsOf (now (tags .exit)) (now (words .exit))) ≡ moveFromOf (cellsOf (now (tags .entry)) (now (words .entry))) s b ⌝ }
 {
-    let top = frames::operations::number_top(s, words, tags, 0);
+    let top = frame::operations::number_top(s, words, tags, 0);
     let y = (b % 256) as u8;
     match top {
-        Numeral::None => s.stopped(frames::BROKEN),
+        Numeral::None => s.stopped(frame::BROKEN),
         Numeral::Is(a) => withdraw(
             s,
             words,
@@ -112,17 +112,17 @@ fn borrow_entry(s: State, words: &mut [u64], tags: &mut [u8], y: u8, i: u8) -> S
         state::second_at(words, tags, o),
         y,
     );
-    frames::operations::settle(s, words, tags, 1, state::TO_RECORD, w)
+    frame::operations::settle(s, words, tags, 1, state::TO_RECORD, w)
 }
 
 // BorrowGlobal.
 pub fn borrow_global(s: State, words: &mut [u64], tags: &mut [u8], b: u16) -> State
     ensures { λ r. ⌜ after r (cellsOf (now (tags .exit)) (now (words .exit))) ≡ globalOf (cellsOf (now (tags .entry)) (now (words .entry))) s b ⌝ }
 {
-    let top = frames::operations::number_top(s, words, tags, 0);
+    let top = frame::operations::number_top(s, words, tags, 0);
     let y = (b % 256) as u8;
     match top {
-        Numeral::None => s.stopped(frames::BROKEN),
+        Numeral::None => s.stopped(frame::BROKEN),
         Numeral::Is(a) => borrow_entry(
             s,
             words,
@@ -144,12 +144,12 @@ fn below(i: u8, n: u8) -> u64
 pub fn exists(s: State, words: &mut [u64], tags: &mut [u8], b: u16) -> State
     ensures { λ r. ⌜ after r (cellsOf (now (tags .exit)) (now (words .exit))) ≡ existsOf (cellsOf (now (tags .entry)) (now (words .entry))) s b ⌝ }
 {
-    let top = frames::operations::number_top(s, words, tags, 0);
+    let top = frame::operations::number_top(s, words, tags, 0);
     match top {
-        Numeral::None => s.stopped(frames::BROKEN),
+        Numeral::None => s.stopped(frame::BROKEN),
         Numeral::Is(a) => {
             let found = entries::find(words, tags, s.entries, (b % 256) as u8, a);
-            frames::operations::settle(s, words, tags, 1, state::NUMBER, below(found, s.entries))
+            frame::operations::settle(s, words, tags, 1, state::NUMBER, below(found, s.entries))
         }
     }
 }

@@ -28,11 +28,11 @@ use Rattle.machine.proofs.Views.{length-below, below-same, rooms-same, entries-
 use Rattle.machine.proofs.Memory.{headIn, up-held, head-past, room-of, field-put}
 use Rattle.references.specs.declared.targets.Target.{Target}
 use Rattle.references.specs.declared.targets.Target.the-variants.{Number as ToNumber, Record as ToRecord, Stale, Impossible}
-use Rattle.frames.specs.Turning.{Turning, after, broken}
-use Rattle.frames.specs.Operations.{numeralOf, withNumber}
+use Rattle.frame.specs.Turning.{Turning, after, broken}
+use Rattle.frame.specs.Operations.{numeralOf, withNumber}
 use Rattle.references.specs.Targets.{localOf, localIn, inRoom, inLocal, heldIn, targetOf, targetBy, targetTop, readAt, readOf, borrowedAs, borrowedIn, borrowFieldOf, writtenAt, writeOf}
-use Rattle.frames.specs.Meaning.{outcomeOf, doing, Stands, Kept}
-use Rattle.frames.proofs.Settles.{kept, next-is, settle-is, settle-kept, ends-kept}
+use Rattle.frame.specs.Meaning.{outcomeOf, doing, Stands, Kept}
+use Rattle.frame.proofs.Settles.{kept, next-is, settle-is, settle-kept, ends-kept}
 
 -- the machine on lists after an instruction that takes n operands and pushes x
 abbrev pub onward : List Operand → State → ℕ → Operand → MOutcome

@@ -16,8 +16,8 @@ use Rattle.state.specs.Frames.{topAt, dropped, goneOn}
 use Rattle.state.specs.Rooms.{isLive, fieldCell}
 use Rattle.references.specs.declared.targets.Target.{Target}
 use Rattle.references.specs.declared.targets.Target.the-variants.{Number as ToNumber, Record as ToRecord, Stale, Impossible}
-use Rattle.frames.specs.Turning.{Turning, after, broken, ends, settled}
-use Rattle.frames.specs.Operations.{numeralOf, withNumber}
+use Rattle.frame.specs.Turning.{Turning, after, broken, ends, settled}
+use Rattle.frame.specs.Operations.{numeralOf, withNumber}
 
 -- the cell of local l of frame f at depth d
 abbrev pub localOf : ℕ → ℕ → ℕ → ℕ → ℕ → ℕ

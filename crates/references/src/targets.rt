@@ -3,7 +3,7 @@ ghost use mathlib.Core.Path.{_≡_};
 ghost use lib.ListN.{getD};
 ghost use Rattle.state.specs.Cells.{cellsOf};
 ghost use Rattle.state.specs.declared.Operand.the-variants.{Empty};
-ghost use Rattle.frames.specs.Turning.{after};
+ghost use Rattle.frame.specs.Turning.{after};
 ghost use Rattle.references.specs.Targets.{localIn, inRoom, inLocal, inField, targetOf, targetTop, readOf, writtenAt, writeOf, borrowedAs, borrowFieldOf};
 use state::Operand;
 use state::Reference;
@@ -110,11 +110,11 @@ pub fn read_ref(s: State, words: &mut [u64], tags: &mut [u8]) -> State
     match x {
         Target::Number(o) => {
             let n = state::number_at(words, tags, o as usize);
-            frames::operations::settle(s, words, tags, 1, state::NUMBER, n)
+            frame::operations::settle(s, words, tags, 1, state::NUMBER, n)
         }
-        Target::Record(_, _) => s.stopped(frames::BROKEN),
+        Target::Record(_, _) => s.stopped(frame::BROKEN),
         Target::Stale => s.stopped(35),
-        Target::Impossible => s.stopped(frames::BROKEN),
+        Target::Impossible => s.stopped(frame::BROKEN),
     }
 }
 
@@ -127,9 +127,9 @@ fn write_at(s: State, words: &mut [u64], tags: &mut [u8], x: Target, n: u64) -> 
             state::put(words, tags, o as usize, state::NUMBER, n);
             s.drop_top(2).next()
         }
-        Target::Record(_, _) => s.stopped(frames::BROKEN),
+        Target::Record(_, _) => s.stopped(frame::BROKEN),
         Target::Stale => s.stopped(35),
-        Target::Impossible => s.stopped(frames::BROKEN),
+        Target::Impossible => s.stopped(frame::BROKEN),
     }
 }
 
@@ -137,10 +137,10 @@ fn write_at(s: State, words: &mut [u64], tags: &mut [u8], x: Target, n: u64) -> 
 pub fn write_ref(s: State, words: &mut [u64], tags: &mut [u8]) -> State
     ensures { λ r. ⌜ after r (cellsOf (now (tags .exit)) (now (words .exit))) ≡ writeOf (cellsOf (now (tags .entry)) (now (words .entry))) s ⌝ }
 {
-    let second = frames::operations::number_top(s, words, tags, 1);
+    let second = frame::operations::number_top(s, words, tags, 1);
     match second {
-        frames::operations::Numeral::None => s.stopped(frames::BROKEN),
-        frames::operations::Numeral::Is(n) => write_at(
+        frame::operations::Numeral::None => s.stopped(frame::BROKEN),
+        frame::operations::Numeral::Is(n) => write_at(
             s,
             words,
             tags,
@@ -164,8 +164,8 @@ fn borrow_held(
     ensures { λ r. ⌜ after r (cellsOf (now (tags .exit)) (now (words .exit))) ≡ borrowedAs (cellsOf (now (tags .entry)) (now (words .entry))) s c m y j x ⌝ }
 {
     match x {
-        Operand::Empty => s.stopped(frames::BROKEN),
-        Operand::Number(_) => frames::operations::settle(
+        Operand::Empty => s.stopped(frame::BROKEN),
+        Operand::Number(_) => frame::operations::settle(
             s,
             words,
             tags,
@@ -173,7 +173,7 @@ fn borrow_held(
             state::TO_FIELD,
             state::field_word(c, m, y, j),
         ),
-        Operand::Record(a, r, k) => frames::operations::settle(
+        Operand::Record(a, r, k) => frame::operations::settle(
             s,
             words,
             tags,
@@ -181,7 +181,7 @@ fn borrow_held(
             state::TO_RECORD,
             state::whole_word(a, r, k),
         ),
-        Operand::Refer(_) => s.stopped(frames::BROKEN),
+        Operand::Refer(_) => s.stopped(frame::BROKEN),
     }
 }
 
@@ -191,13 +191,13 @@ pub fn borrow_field(s: State, words: &mut [u64], tags: &mut [u8], b: u16) -> Sta
 {
     let x = target_top(s, words, tags);
     match x {
-        Target::Number(_) => s.stopped(frames::BROKEN),
+        Target::Number(_) => s.stopped(frame::BROKEN),
         Target::Record(c, m) => {
             let j = (b % 8) as u8;
             let held = state::cell(words, tags, rooms::field_cell(words, tags, m, j) as usize);
             borrow_held(s, words, tags, c, m, (b / 8 % 256) as u8, j, held)
         }
         Target::Stale => s.stopped(35),
-        Target::Impossible => s.stopped(frames::BROKEN),
+        Target::Impossible => s.stopped(frame::BROKEN),
     }
 }

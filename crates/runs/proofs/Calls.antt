@@ -29,9 +29,9 @@ use Rattle.machine.specs.Lists.{MBase, mbase, mafter, numbersOf, mbegin, mline}
 use Rattle.machine.specs.Views.{Same, upFrom, operandsIn, belowIn, roomBy, roomIn, roomsIn, entriesIn, viewOf}
 use Rattle.machine.proofs.Lists.{Between, between-begins}
 use Rattle.machine.proofs.Views.{tab-same, up-same, room-same, entries-same, up-append, up-empty, topmost-down, length-emptied, emptied-other, emptied-there}
-use Rattle.frames.specs.Turning.{Turning, after, done, broken}
-use Rattle.frames.specs.Control.{within}
-use Rattle.frames.specs.Meaning.{Tidy}
+use Rattle.frame.specs.Turning.{Turning, after, done, broken}
+use Rattle.frame.specs.Control.{within}
+use Rattle.frame.specs.Meaning.{Tidy}
 use Rattle.interpreter.specs.Run.{runFrom}
 use Rattle.interpreter.specs.Calls.{keptOf, freed, filled, begun, begunIn, restored, restoredIn, restoredTo, callTurn}
 use Rattle.interpreter.proofs.Live.{Live, Numbers}

@@ -29,7 +29,7 @@ use Rattle.machine.specs.Lists.{mnothing, mafter, mbegin, mline, mlines, mlast,
 use Rattle.machine.specs.Views.{tab, roomIn, roomsIn, entriesIn, viewOf}
 use Rattle.machine.proofs.Lists.{Between, between-nothing, between-after, text-same}
 use Rattle.machine.proofs.Views.{tab-same}
-use Rattle.frames.specs.Turning.{Turning, after}
+use Rattle.frame.specs.Turning.{Turning, after}
 use Rattle.interpreter.specs.Run.{runFrom}
 use Rattle.interpreter.specs.Calls.{keptOf, begun, begunIn, restoredTo, callTurn}
 use Rattle.interpreter.proofs.Keeping.{length-kept-of}

@@ -20,7 +20,7 @@ use Rattle.state.specs.Coding.{values, valueOf}
 use Rattle.state.specs.Cells.{cellsOf}
 use Rattle.machine.specs.Lists.{mentryLines}
 use Rattle.machine.specs.Views.{roomsIn, entriesIn}
-use Rattle.frames.specs.Turning.{after}
+use Rattle.frame.specs.Turning.{after}
 use Rattle.interpreter.specs.Calls.{keptOf, callTurn}
 use Rattle.runs.specs.Lists.{resultsIn, endLine, start, storeText, lineOf, textFrom, textIn}
 

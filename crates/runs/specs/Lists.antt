@@ -16,7 +16,7 @@ use Rattle.state.specs.Coding.{numberOf}
 use Rattle.state.specs.Layout.{allCells}
 use Rattle.machine.specs.Lists.{mentryLines}
 use Rattle.machine.specs.Views.{roomsIn, entriesIn}
-use Rattle.frames.specs.Turning.{Turning, after, done, broken}
+use Rattle.frame.specs.Turning.{Turning, after, done, broken}
 use Rattle.interpreter.specs.Calls.{keptOf, callTurn}
 
 -- the results of a call that is done: the k top operands of its first frame, at most four

@@ -45,10 +45,10 @@ fn put_end(
 ) -> usize
     ensures { λ r. ⌜ (now (text .exit) ≡ (placed (now (text .entry)) at (endLine call stop row results count)) .buffer) × (r ≡ (placed (now (text .entry)) at (endLine call stop row results count)) .end) ⌝ }
 {
-    if stop == frames::DONE {
+    if stop == frame::DONE {
         return text::put_done(text, at, call, results, count);
     }
-    if stop == frames::BROKEN {
+    if stop == frame::BROKEN {
         return at;
     }
     text::put_stop(text, at, call, stop, row)

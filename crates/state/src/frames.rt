@@ -6,19 +6,19 @@ ghost use Rattle.state.specs.Cells.{cellsOf};
 ghost use Rattle.state.specs.Frames.{pushed, pushedIn, topAt, dropped, goneTo, goneOn, stoppedWith, loadedIn, clearedIn, storedIn, suspendedIn, resumed, entered, enteredIn, received, receivedIn, nextSerial};
 use crate::Operand;
 
-// The running frame: its serial number, its procedure, the instruction that it is at, how many frames are below it, how many operands and how many
-// locals it has. Then 0, or why the call ended. Then how many records and how many frames there have been, how many entries the store has, a number of
-// rooms past which none is in use, and one below which all are.
+// Of the running frame: its serial number, its procedure, the instruction that it is at, how many operands it has, how many frames are below it, and how
+// many locals it has. How many records and how many frames there have been. Then 0, or why the call ended; how many entries the store has, a number of
+// rooms past which none is in use, and one below which all are. The fields stand in an order in which the compiler keeps them in registers.
 pub struct State {
     pub serial: u32,
+    pub records: u32,
     pub procedure: u16,
     pub at: u16,
-    pub depth: u8,
+    pub frames: u32,
     pub height: u8,
+    pub depth: u8,
     pub count: u8,
     pub stop: u8,
-    pub records: u32,
-    pub frames: u32,
     pub entries: u8,
     pub rooms: u8,
     pub free: u8,

@@ -5,7 +5,7 @@ use mathlib.Core.List.{List}
 use lib.ListN.{getD, List·getD-eq-default}
 use Rattle.state.specs.declared.Operand.{Operand}
 use Rattle.state.specs.declared.frames.State.{State}
-use Rattle.frames.specs.Turning.{Turning}
+use Rattle.frame.specs.Turning.{Turning}
 use Rattle.step.specs.Step.{turns}
 
 pub past-all : (b d kind fields parameters count results : ℕ) (cs : List Operand) (s : State) (x : Turning) (i : ℕ) → 20 ≤ i → getD (turns b d kind fields parameters count results cs s) i x ≡ x

@@ -21,17 +21,17 @@ use Rattle.state.specs.Layout.{roomCell}
 use Rattle.state.specs.Coding.{secondOf}
 use Rattle.state.specs.Frames.{pushed, dropped, goneTo, goneOn, stoppedWith, topAt, resumed, resumedAt, received, entered, enteredIn, suspendedIn}
 use Rattle.state.specs.Rooms.{isLive, fieldCell, firstFree}
-use Rattle.frames.specs.declared.operations.Numeral.{Numeral}
-use Rattle.frames.specs.declared.operations.Numeral.the-variants.{Is, None}
+use Rattle.frame.specs.declared.operations.Numeral.{Numeral}
+use Rattle.frame.specs.declared.operations.Numeral.the-variants.{Is, None}
 use Rattle.references.specs.declared.targets.Target.{Target}
 use Rattle.references.specs.declared.targets.Target.the-variants.{Number as ToNumber, Record as ToRecord, Stale, Impossible}
-use Rattle.frames.specs.Turning.{Turning, after, done, broken, ends}
-use Rattle.frames.specs.Operations.{numeralOf, withNumber, closed, opOf}
-use Rattle.frames.specs.Stack.{poppedBy}
+use Rattle.frame.specs.Turning.{Turning, after, done, broken, ends}
+use Rattle.frame.specs.Operations.{numeralOf, withNumber, closed, opOf}
+use Rattle.frame.specs.Stack.{poppedBy}
 use Rattle.references.specs.Targets.{targetTop, readAt, readOf, writtenAt, writeOf, borrowedAs, borrowedIn, borrowFieldOf}
 use Rattle.records.specs.Packing.{packOf, packedState, packedIn, unpackOf, unpackedTop, unpackedFrom, unpackedAt}
 use Rattle.records.specs.Published.{withEntries, found, publishedAs, movedTo, moveToOf, takenOut, moveFromOf, globalAt, globalOf, existsOf}
-use Rattle.frames.specs.Control.{within, calledIn, callOf, returnedTo, retOf, branchedBy, branchOf}
+use Rattle.frame.specs.Control.{within, calledIn, callOf, returnedTo, retOf, branchedBy, branchOf}
 use Rattle.step.specs.Step.{turns}
 
 pub record Bounded (s s′ : State) : Type 0 where

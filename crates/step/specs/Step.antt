@@ -9,13 +9,13 @@ use Rattle.program.specs.Program.{localKind, localCount, parametersEnd}
 use Rattle.state.specs.declared.Operand.{Operand}
 use Rattle.state.specs.declared.frames.State.{State}
 use Rattle.state.specs.Frames.{goneTo}
-use Rattle.frames.specs.Turning.{Turning, after, broken, ends}
-use Rattle.frames.specs.Operations.{opOf}
-use Rattle.frames.specs.Stack.{poppedBy, constOf, moveOf, copyOf, storeOf, borrowOf}
+use Rattle.frame.specs.Turning.{Turning, after, broken, ends}
+use Rattle.frame.specs.Operations.{opOf}
+use Rattle.frame.specs.Stack.{poppedBy, constOf, moveOf, copyOf, storeOf, borrowOf}
 use Rattle.references.specs.Targets.{readOf, writeOf, borrowFieldOf}
 use Rattle.records.specs.Packing.{packOf, unpackOf}
 use Rattle.records.specs.Published.{moveToOf, moveFromOf, globalOf, existsOf}
-use Rattle.frames.specs.Control.{callOf, retOf, branchOf}
+use Rattle.frame.specs.Control.{callOf, retOf, branchOf}
 
 -- operand b and constant d of an instruction; the kind of local b; how many fields type b has; how many parameters and locals procedure b has; how
 -- many results the running procedure has
