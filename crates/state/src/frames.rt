@@ -6,17 +6,17 @@ ghost use Rattle.state.specs.Cells.{cellsOf};
 ghost use Rattle.state.specs.Frames.{pushed, pushedIn, topAt, dropped, goneTo, goneOn, stoppedWith, loadedIn, clearedIn, storedIn, suspendedIn, resumed, entered, enteredIn, received, receivedIn, nextSerial};
 use crate::Operand;
 
-// Of the running frame: its serial number, its procedure, the instruction that it is at, how many operands it has, how many frames are below it, and how
-// many locals it has. How many records and how many frames there have been. Then 0, or why the call ended; how many entries the store has, a number of
-// rooms past which none is in use, and one below which all are. The fields stand in an order in which the compiler keeps them in registers.
+// Of the running frame: its serial number, its procedure, the instruction that it is at, how many frames are below it, how many operands and how many
+// locals it has. How many frames and how many records there have been. Then 0, or why the call ended; how many entries the store has, a number of rooms past
+// which none is in use, and one below which all are. The order of the fields is one in which the compiler keeps them in registers.
 pub struct State {
     pub serial: u32,
-    pub records: u32,
+    pub frames: u32,
     pub procedure: u16,
     pub at: u16,
-    pub frames: u32,
-    pub height: u8,
+    pub records: u32,
     pub depth: u8,
+    pub height: u8,
     pub count: u8,
     pub stop: u8,
     pub entries: u8,
