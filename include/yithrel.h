@@ -68,7 +68,7 @@ uint64_t yithrel_judge(const uint8_t *table, size_t table_len);
  *
  * Nothing may write table or list while the call runs, and the buffers lent to one call may not overlap.
  *
- * A call needs 74 KB of stack, whatever the table and the list (measured over made runs and runs at the limits): 128 KiB are enough.
+ * A call needs 95 KB of stack, whatever the table and the list (measured over made runs and runs at the limits): 128 KiB are enough.
  *
  * A table or list of no bytes may be given as any pointer, null too, with length 0.
  */

@@ -21,7 +21,6 @@ use Rattle.machine.specs.Machine.{MFrame, mframe, mstate, MOutcome, mnext, msto
 use Rattle.machine.specs.Views.{upFrom, downFrom, operandsIn, localsIn, frameIn, belowIn, roomsIn, entriesIn, Same}
 use Rattle.machine.proofs.Views.{same-refl, same-trans, up-same, below-same, rooms-same, entries-same, length-below, length-suspended, length-entered, length-received, suspended-same, entered-same, received-same, pair-first, top-is, drop-is, topmost-is, enter-locals, suspend-is, receive-operands, receive-locals}
 use Rattle.frame.specs.Turning.{after, done, broken}
-use Rattle.frame.specs.Operations.{numeralOf}
 use Rattle.frame.specs.Control.{callOf, calledIn, retOf, branchedBy, branchOf}
 use Rattle.frame.specs.Meaning.{outcomeOf, doing, Stands, Kept}
 use Rattle.frame.proofs.Settles.{kept, ends-kept, goes-is, goes-kept, next-is}
@@ -58,7 +57,7 @@ module _ (cs : List Operand) (s : State) (st : Stands cs s) where
       either true = goes _ ∙ ap to (next-is cs s st)
       either false = goes b
 
-      go : (x : Operand) → outcomeOf k (after (branchedBy s b (numeralOf x)) cs) ≡ asNumber x (λ (n : ℕ). to (cond (eqb n 0) (s .at + 1) b))
+      go : (x : Operand) → outcomeOf k (after (branchedBy s b x) cs) ≡ asNumber x (λ (n : ℕ). to (cond (eqb n 0) (s .at + 1) b))
       go Empty = refl
       go (Number n) = either (eqb n 0)
       go (Record a c y) = refl
@@ -71,7 +70,7 @@ module _ (cs : List Operand) (s : State) (st : Stands cs s) where
       either true = goes-kept cs s st cs (same-refl cs 512 1824) _ _ refl
       either false = goes-kept cs s st cs (same-refl cs 512 1824) _ _ refl
 
-      go : (x : Operand) → Kept cs s (after (branchedBy s b (numeralOf x)) cs)
+      go : (x : Operand) → Kept cs s (after (branchedBy s b x) cs)
       go Empty = ends-kept cs s broken
       go (Number n) = either (eqb n 0)
       go (Record a c y) = ends-kept cs s broken

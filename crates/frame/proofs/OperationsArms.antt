@@ -15,7 +15,7 @@ use Rattle.machine.specs.Machine.{MOutcome, asNumber, calculates, doings}
 use Rattle.machine.specs.Views.{operandsIn, localsIn, belowIn, roomsIn, entriesIn}
 use Rattle.machine.proofs.Views.{top-is, second-is}
 use Rattle.frame.specs.Turning.{broken}
-use Rattle.frame.specs.Operations.{numeralOf, withNumber, closed, opOf}
+use Rattle.frame.specs.Operations.{closed, operated, opOf}
 use Rattle.frame.specs.Meaning.{outcomeOf, doing, Stands, Kept}
 use Rattle.frame.proofs.Settles.{ends-kept, settle-is, settle-kept}
 
@@ -35,7 +35,7 @@ module _ (cs : List Operand) (s : State) (st : Stands cs s) where
       given OutOfRange = refl
       given Unknown = refl
 
-      go : (u v : Operand) → outcomeOf k (withNumber cs s (numeralOf u) λ (x : ℕ). withNumber cs s (numeralOf v) λ (y : ℕ). closed cs s (calculation b x y)) ≡ asNumber u (λ (x : ℕ). asNumber v λ (y : ℕ). gives (calculation b x y))
+      go : (u v : Operand) → outcomeOf k (closed cs s (operated b u v)) ≡ asNumber u (λ (x : ℕ). asNumber v λ (y : ℕ). gives (calculation b x y))
       go Empty v = refl
       go (Record a c y) v = refl
       go (Refer r) v = refl
@@ -45,18 +45,9 @@ module _ (cs : List Operand) (s : State) (st : Stands cs s) where
       go (Number x) (Number y) = given (calculation b x y)
 
   pub op-kept : (b : ℕ) → Kept cs s (opOf cs s b)
-  op-kept b = go (topAt cs s 1) (topAt cs s 0)
+  op-kept b = shut (operated b (topAt cs s 1) (topAt cs s 0))
     where
       shut : (c : Calculated) → Kept cs s (closed cs s c)
       shut (Value v) = settle-kept cs s st 2 (Number v) room
       shut OutOfRange = ends-kept cs s outOfRange
       shut Unknown = ends-kept cs s broken
-
-      go : (u v : Operand) → Kept cs s (withNumber cs s (numeralOf u) λ (x : ℕ). withNumber cs s (numeralOf v) λ (y : ℕ). closed cs s (calculation b x y))
-      go Empty v = ends-kept cs s broken
-      go (Record a c y) v = ends-kept cs s broken
-      go (Refer r) v = ends-kept cs s broken
-      go (Number x) Empty = ends-kept cs s broken
-      go (Number x) (Record a c y) = ends-kept cs s broken
-      go (Number x) (Refer r) = ends-kept cs s broken
-      go (Number x) (Number y) = shut (calculation b x y)

@@ -6,12 +6,10 @@ use lib.Dec.{eqb, leb}
 use Rattle.rules.specs.Limits.{tooManyFrames}
 use Rattle.state.specs.declared.Operand.{Operand}
 use Rattle.state.specs.declared.frames.State.{State}
+use Rattle.state.specs.Coding.{isNumber, numberOf}
 use Rattle.state.specs.Layout.{operandCell}
 use Rattle.state.specs.Frames.{topAt, dropped, goneTo, goneOn, stoppedWith, suspendedIn, resumed, entered, enteredIn, received, receivedIn}
-use Rattle.frame.specs.declared.operations.Numeral.{Numeral}
-use Rattle.frame.specs.declared.operations.Numeral.the-variants.{Is, None}
 use Rattle.frame.specs.Turning.{Turning, after, done, broken, ends}
-use Rattle.frame.specs.Operations.{numeralOf}
 
 -- n, at most 16
 abbrev pub within : ℕ → ℕ
@@ -33,9 +31,8 @@ abbrev pub retOf : List Operand → State → ℕ → Turning
 retOf cs s k = cond (eqb (s .depth) 0) (ends cs s done) (returnedTo cs s (k % 256))
 
 -- BranchCond
-abbrev pub branchedBy : State → ℕ → Numeral → State
-branchedBy s b None = stoppedWith s broken
-branchedBy s b (Is n) = cond (eqb n 0) (goneOn (dropped s 1)) (goneTo (dropped s 1) b)
+abbrev pub branchedBy : State → ℕ → Operand → State
+branchedBy s b x = cond (isNumber x) (cond (eqb (numberOf x) 0) (goneOn (dropped s 1)) (goneTo (dropped s 1) b)) (stoppedWith s broken)
 
 abbrev pub branchOf : List Operand → State → ℕ → State
-branchOf cs s b = branchedBy s b (numeralOf (topAt cs s 0))
+branchOf cs s b = branchedBy s b (topAt cs s 0)

@@ -14,30 +14,30 @@ pub fn pop(s: State) -> State
     s.drop_top(1).next()
 }
 
-pub fn load_const(s: State, words: &mut [u64], tags: &mut [u8], n: u64) -> State
-    ensures { λ r. ⌜ after r (cellsOf (now (tags .exit)) (now (words .exit))) ≡ constOf (cellsOf (now (tags .entry)) (now (words .entry))) s n ⌝ }
+pub fn load_const(s: State, cells: &mut [u64], n: u64) -> State
+    ensures { λ r. ⌜ after r (cellsOf (now (cells .exit))) ≡ constOf (cellsOf (now (cells .entry))) s n ⌝ }
 {
-    s.push(words, tags, state::NUMBER, n).next()
+    s.push(cells, state::NUMBER, n).next()
 }
 
-pub fn move_local(s: State, words: &mut [u64], tags: &mut [u8], l: u16) -> State
-    ensures { λ r. ⌜ after r (cellsOf (now (tags .exit)) (now (words .exit))) ≡ moveOf (cellsOf (now (tags .entry)) (now (words .entry))) s l ⌝ }
+pub fn move_local(s: State, cells: &mut [u64], l: u16) -> State
+    ensures { λ r. ⌜ after r (cellsOf (now (cells .exit))) ≡ moveOf (cellsOf (now (cells .entry))) s l ⌝ }
 {
-    let next = s.load(words, tags, l);
-    s.clear(words, tags, l);
+    let next = s.load(cells, l);
+    s.clear(cells, l);
     next.next()
 }
 
-pub fn copy_local(s: State, words: &mut [u64], tags: &mut [u8], l: u16) -> State
-    ensures { λ r. ⌜ after r (cellsOf (now (tags .exit)) (now (words .exit))) ≡ copyOf (cellsOf (now (tags .entry)) (now (words .entry))) s l ⌝ }
+pub fn copy_local(s: State, cells: &mut [u64], l: u16) -> State
+    ensures { λ r. ⌜ after r (cellsOf (now (cells .exit))) ≡ copyOf (cellsOf (now (cells .entry))) s l ⌝ }
 {
-    s.load(words, tags, l).next()
+    s.load(cells, l).next()
 }
 
-pub fn store_local(s: State, words: &mut [u64], tags: &mut [u8], l: u16) -> State
-    ensures { λ r. ⌜ after r (cellsOf (now (tags .exit)) (now (words .exit))) ≡ storeOf (cellsOf (now (tags .entry)) (now (words .entry))) s l ⌝ }
+pub fn store_local(s: State, cells: &mut [u64], l: u16) -> State
+    ensures { λ r. ⌜ after r (cellsOf (now (cells .exit))) ≡ storeOf (cellsOf (now (cells .entry))) s l ⌝ }
 {
-    s.store(words, tags, l).next()
+    s.store(cells, l).next()
 }
 
 // The kind of local l of a procedure.
@@ -48,15 +48,8 @@ fn kind_of_local(table: &[u8], own: ProcedureEntry, l: u16) -> u16
     (program::row_kind(row) % 65536) as u16
 }
 
-pub fn borrow_local(
-    s: State,
-    words: &mut [u64],
-    tags: &mut [u8],
-    table: &[u8],
-    own: ProcedureEntry,
-    l: u16,
-) -> State
-    ensures { λ r. ⌜ after r (cellsOf (now (tags .exit)) (now (words .exit))) ≡ borrowOf (cellsOf (now (tags .entry)) (now (words .entry))) s l (localKind (now (table .entry)) own l) ⌝ }
+pub fn borrow_local(s: State, cells: &mut [u64], table: &[u8], own: ProcedureEntry, l: u16) -> State
+    ensures { λ r. ⌜ after r (cellsOf (now (cells .exit))) ≡ borrowOf (cellsOf (now (cells .entry))) s l (localKind (now (table .entry)) own l) ⌝ }
 {
     let w = state::local_word(
         s.serial,
@@ -64,5 +57,5 @@ pub fn borrow_local(
         (l % 256) as u8,
         kind_of_local(table, own, l),
     );
-    s.push(words, tags, state::TO_LOCAL, w).next()
+    s.push(cells, state::TO_LOCAL, w).next()
 }

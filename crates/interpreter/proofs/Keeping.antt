@@ -1,5 +1,5 @@
 -- Cells that are kept before a call and put back after a stop, and the cells in which a call begins.
-use Prim.Native.Nat.{ℕ, zero, suc, _+_, _-_, _*_, _≤_, _<_}
+use Prim.Native.Nat.{ℕ, zero, suc, _+_, _-_, _*_, _/_, _≤_, _<_}
 use mathlib.Core.Path.{_≡_, refl, ap, sym, _∙_}
 use mathlib.Core.Bool.{Bool, true, false, cond}
 use mathlib.Core.Logic.{_⊎_, inl, inr}
@@ -152,40 +152,34 @@ filled-done cs ds at k xs l p = sym (p ∙ rw (drop-all xs k l))
     drop-all (x ∷ xs) zero l = absurd (omega arith)
     drop-all (x ∷ xs) (suc k) l = drop-all xs k (omega arith)
 
--- numbers carried in both arrays are cells carried
-pub cells-carried : (ts ws ts₀ ws₀ : List ℕ) (at k : ℕ) → at + k ≤ length ts → at + k ≤ length ws
-    → cellsOf (carried 0 ts₀ ts at k) (carried 0 ws₀ ws at k) ≡ carried Empty (cellsOf ts₀ ws₀) (cellsOf ts ws) at k
+-- numbers carried, two a cell, are cells carried
+pub cells-carried : (ns ns₀ : List ℕ) (at k : ℕ) → at + k ≤ length ns / 2 → cellsOf (carried 0 ns₀ ns (2 * at) (2 * k)) ≡ carried Empty (cellsOf ns₀) (cellsOf ns) at k
 unfolding carried
-cells-carried ts ws ts₀ ws₀ at zero a b = refl
-cells-carried ts ws ts₀ ws₀ at (suc k) a b =
-    cells-set (carried 0 ts₀ ts at k) (carried 0 ws₀ ws at k) (at + k) (getD ts (at + k) 0) (getD ws (at + k) 0)
-    ∙ rw (cells-carried ts ws ts₀ ws₀ at k (omega arith) (omega arith), ← cells-at ts ws (at + k) (omega arith) (omega arith))
+cells-carried ns ns₀ at zero a = refl
+cells-carried ns ns₀ at (suc k) a =
+    let two : 2 * suc k ≡ suc (suc (2 * k)) = omega arith in
+    let tag : 2 * at + 2 * k ≡ 2 * (at + k) = omega arith in
+    let word : 2 * at + suc (2 * k) ≡ 2 * (at + k) + 1 = omega arith in
+    rw (two, tag, word)
+    (cells-set (carried 0 ns₀ ns (2 * at) (2 * k)) (at + k) (getD ns (2 * (at + k)) 0) (getD ns (2 * (at + k) + 1) 0)
+    ∙ rw (cells-carried ns ns₀ at k (omega arith), ← cells-at ns (at + k) (omega arith)))
 
 -- cells that are in both are kept, others are not
-module _ (ts ws ts₀ ws₀ : List ℕ) (at k : ℕ) where
-  pub keeps : {ts′ ws′ : List ℕ} → at + k ≤ length ts → at + k ≤ length ws → at + k ≤ length ts₀ → at + k ≤ length ws₀ → ws′ ≡ carried 0 ws₀ ws at k → ts′ ≡ carried 0 ts₀ ts at k
-      → cellsOf ts′ ws′ ≡ kept (cellsOf ts₀ ws₀) (cellsOf ts ws) at k
+module _ (ns ns₀ : List ℕ) (at k : ℕ) where
+  pub keeps : {ns′ : List ℕ} → 2 * at + 2 * k ≤ length ns → 2 * at + 2 * k ≤ length ns₀ → ns′ ≡ carried 0 ns₀ ns (2 * at) (2 * k) → cellsOf ns′ ≡ kept (cellsOf ns₀) (cellsOf ns) at k
   unfolding kept
-  keeps a b c d p q =
-      rw (q, p, le-leb (at + k) (length (cellsOf ts₀ ws₀)) (omega (arith, cells-length ts₀ ws₀)), le-leb (at + k) (length (cellsOf ts ws)) (omega (arith, cells-length ts ws)))
-      (cells-carried ts ws ts₀ ws₀ at k a b)
+  keeps a b p =
+      rw (p, le-leb (at + k) (length (cellsOf ns₀)) (omega (arith, cells-length ns₀)), le-leb (at + k) (length (cellsOf ns)) (omega (arith, cells-length ns)))
+      (cells-carried ns ns₀ at k (omega arith))
 
-  pub keeps-none : (length ts < at + k) ⊎ (length ws < at + k) → cellsOf ts₀ ws₀ ≡ kept (cellsOf ts₀ ws₀) (cellsOf ts ws) at k
+  pub keeps-none : length ns < 2 * at + 2 * k → cellsOf ns₀ ≡ kept (cellsOf ns₀) (cellsOf ns) at k
   unfolding kept
-  keeps-none o = rw (lt-leb (at + k) (length (cellsOf ts ws)) (short o)) (go (leb (at + k) (length (cellsOf ts₀ ws₀))))
+  keeps-none l = rw (lt-leb (at + k) (length (cellsOf ns)) (omega (arith, cells-length ns))) (go (leb (at + k) (length (cellsOf ns₀))))
     where
-      short : (length ts < at + k) ⊎ (length ws < at + k) → length (cellsOf ts ws) < at + k
-      short (inl l) = omega (arith, cells-length ts ws)
-      short (inr l) = omega (arith, cells-length ts ws)
-
-      go : (b : Bool) → cellsOf ts₀ ws₀ ≡ cond b (cellsOf ts₀ ws₀) (cellsOf ts₀ ws₀)
+      go : (b : Bool) → cellsOf ns₀ ≡ cond b (cellsOf ns₀) (cellsOf ns₀)
       go true = refl
       go false = refl
 
-  pub keeps-none-there : (length ts₀ < at + k) ⊎ (length ws₀ < at + k) → cellsOf ts₀ ws₀ ≡ kept (cellsOf ts₀ ws₀) (cellsOf ts ws) at k
+  pub keeps-none-there : length ns₀ < 2 * at + 2 * k → cellsOf ns₀ ≡ kept (cellsOf ns₀) (cellsOf ns) at k
   unfolding kept
-  keeps-none-there o = rw (lt-leb (at + k) (length (cellsOf ts₀ ws₀)) (short o))
-    where
-      short : (length ts₀ < at + k) ⊎ (length ws₀ < at + k) → length (cellsOf ts₀ ws₀) < at + k
-      short (inl l) = omega (arith, cells-length ts₀ ws₀)
-      short (inr l) = omega (arith, cells-length ts₀ ws₀)
+  keeps-none-there l = rw (lt-leb (at + k) (length (cellsOf ns₀)) (omega (arith, cells-length ns₀)))

@@ -27,15 +27,8 @@ fn instruction_at(table: &[u8], own: ProcedureEntry, i: u16) -> Row
 }
 
 // Runs instructions until the call ends or its budget is spent.
-pub fn run(
-    s: State,
-    words: &mut [u64],
-    tags: &mut [u8],
-    table: &[u8],
-    index: Index,
-    budget: u32,
-) -> State
-    ensures { λ r. ⌜ after r (cellsOf (now (tags .exit)) (now (words .exit))) ≡ runFrom (now (table .entry)) index budget (cellsOf (now (tags .entry)) (now (words .entry))) s ⌝ }
+pub fn run(s: State, cells: &mut [u64], table: &[u8], index: Index, budget: u32) -> State
+    ensures { λ r. ⌜ after r (cellsOf (now (cells .exit))) ≡ runFrom (now (table .entry)) index budget (cellsOf (now (cells .entry))) s ⌝ }
 {
     let mut now = s;
     let mut left = budget;
@@ -45,7 +38,7 @@ pub fn run(
         let row = instruction_at(table, own, now.at);
         let named = index.type_entries[(row.b % 64) as usize];
         let callee = index.procedure_entries[(row.b % 128) as usize];
-        now = step::step(now, words, tags, table, row, own, named, callee);
+        now = step::step(now, cells, table, row, own, named, callee);
         if now.stop != 0 {
             return now;
         }
@@ -54,18 +47,7 @@ pub fn run(
 }
 
 // Copies k numbers from place `at` on.
-fn copy_words(to: &mut [u64], from: &[u64], at: usize, k: usize)
-    requires { ⌜ (at + k ≤ length (now to)) × (at + k ≤ length (now from)) ⌝ }
-    ensures { λ _. ⌜ now (to .exit) ≡ carried 0 (now (to .entry)) (now (from .entry)) at k ⌝ }
-{
-    let mut j: usize = 0;
-    while j < k {
-        to[at + j] = from[at + j];
-        j += 1;
-    }
-}
-
-fn copy_tags(to: &mut [u8], from: &[u8], at: usize, k: usize)
+fn copy_numbers(to: &mut [u64], from: &[u64], at: usize, k: usize)
     requires { ⌜ (at + k ≤ length (now to)) × (at + k ≤ length (now from)) ⌝ }
     ensures { λ _. ⌜ now (to .exit) ≡ carried 0 (now (to .entry)) (now (from .entry)) at k ⌝ }
 {
@@ -77,50 +59,42 @@ fn copy_tags(to: &mut [u8], from: &[u8], at: usize, k: usize)
 }
 
 // Copies the k cells from cell `at` on, where they are in both.
-fn keep(to: &mut [u64], marks: &mut [u8], words: &[u64], tags: &[u8], at: u16, k: u16)
-    ensures { λ _. ⌜ cellsOf (now (marks .exit)) (now (to .exit)) ≡ kept (cellsOf (now (marks .entry)) (now (to .entry))) (cellsOf (now (tags .entry)) (now (words .entry))) at k ⌝ }
+fn keep(to: &mut [u64], from: &[u64], at: u16, k: u16)
+    ensures { λ _. ⌜ cellsOf (now (to .exit)) ≡ kept (cellsOf (now (to .entry))) (cellsOf (now (from .entry))) at k ⌝ }
 {
-    let from = at as usize;
-    let n = k as usize;
-    let end = from + n;
-    if to.len() < end {
+    let first = 2 * (at as usize);
+    let n = 2 * (k as usize);
+    if to.len() < first + n {
         return;
     }
-    if marks.len() < end {
+    if from.len() < first + n {
         return;
     }
-    if words.len() < end {
-        return;
-    }
-    if tags.len() < end {
-        return;
-    }
-    copy_words(to, words, from, n);
-    copy_tags(marks, tags, from, n);
+    copy_numbers(to, from, first, n);
 }
 
 // Copies the entries and the rooms of a state.
-fn keep_memory(to: &mut [u64], marks: &mut [u8], words: &[u64], tags: &[u8], s: State)
-    ensures { λ _. ⌜ cellsOf (now (marks .exit)) (now (to .exit)) ≡ keptOf (cellsOf (now (marks .entry)) (now (to .entry))) (cellsOf (now (tags .entry)) (now (words .entry))) s ⌝ }
+fn keep_memory(to: &mut [u64], from: &[u64], s: State)
+    ensures { λ _. ⌜ cellsOf (now (to .exit)) ≡ keptOf (cellsOf (now (to .entry))) (cellsOf (now (from .entry))) s ⌝ }
 {
-    keep(to, marks, words, tags, 544, 2 * (s.entries as u16));
-    keep(to, marks, words, tags, 672, 9 * (s.rooms as u16));
+    keep(to, from, 544, 2 * (s.entries as u16));
+    keep(to, from, 672, 9 * (s.rooms as u16));
 }
 
 // Empties the heads of n rooms from room r on.
-fn free_rooms(words: &[u64], tags: &mut [u8], r: u8, n: u8)
-    ensures { λ _. ⌜ cellsOf (now (tags .exit)) (now (words .entry)) ≡ freed (cellsOf (now (tags .entry)) (now (words .entry))) r n ⌝ }
+fn free_rooms(cells: &mut [u64], r: u8, n: u8)
+    ensures { λ _. ⌜ cellsOf (now (cells .exit)) ≡ freed (cellsOf (now (cells .entry))) r n ⌝ }
 {
     let mut j: u8 = 0;
     while j < n {
-        state::clear(words, tags, 672 + 9 * ((r as usize) + (j as usize)));
+        state::clear(cells, 672 + 9 * ((r as usize) + (j as usize)));
         j += 1;
     }
 }
 
 // Puts numbers into cells: the arguments of the call at row i of a list.
-fn put_arguments(words: &mut [u64], tags: &mut [u8], list: &[u8], i: usize)
-    ensures { λ _. ⌜ cellsOf (now (tags .exit)) (now (words .exit)) ≡ filled (cellsOf (now (tags .entry)) (now (words .entry))) 16 (arguments (now (list .entry)) (i + 1) (rowCount (now (list .entry)) - (i + 1))) ⌝ }
+fn put_arguments(cells: &mut [u64], list: &[u8], i: usize)
+    ensures { λ _. ⌜ cellsOf (now (cells .exit)) ≡ filled (cellsOf (now (cells .entry))) 16 (arguments (now (list .entry)) (i + 1) (rowCount (now (list .entry)) - (i + 1))) ⌝ }
 {
     if list.len() / format::ROW_BYTES <= i {
         return;
@@ -129,8 +103,7 @@ fn put_arguments(words: &mut [u64], tags: &mut [u8], list: &[u8], i: usize)
     let mut k: usize = 0;
     while k < n {
         state::put(
-            words,
-            tags,
+            cells,
             16 + k,
             state::NUMBER,
             table::row_at(list, i + 1 + k).d,
@@ -155,23 +128,15 @@ fn begin(mut s: State, procedure: u16, count: u8) -> State
 }
 
 // After a call: where it is not done, entries and rooms are those of its beginning.
-fn restore(
-    s: State,
-    words: &mut [u64],
-    tags: &mut [u8],
-    to: &[u64],
-    marks: &[u8],
-    first: State,
-) -> State
-    ensures { λ r. ⌜ after r (cellsOf (now (tags .exit)) (now (words .exit))) ≡ restoredTo (cellsOf (now (marks .entry)) (now (to .entry))) first (after s (cellsOf (now (tags .entry)) (now (words .entry)))) ⌝ }
+fn restore(s: State, cells: &mut [u64], saved: &[u64], first: State) -> State
+    ensures { λ r. ⌜ after r (cellsOf (now (cells .exit))) ≡ restoredTo (cellsOf (now (saved .entry))) first (after s (cellsOf (now (cells .entry)))) ⌝ }
 {
     if s.stop == frame::DONE {
         return s;
     }
-    keep_memory(words, tags, to, marks, first);
+    keep_memory(cells, saved, first);
     free_rooms(
-        words,
-        tags,
+        cells,
         first.rooms,
         state::frames::rest(s.rooms, first.rooms),
     );
@@ -185,24 +150,22 @@ fn restore(
 // The call at row i of a list.
 pub fn call(
     s: State,
-    words: &mut [u64],
-    tags: &mut [u8],
-    to: &mut [u64],
-    marks: &mut [u8],
+    cells: &mut [u64],
+    saved: &mut [u64],
     table: &[u8],
     index: Index,
     list: &[u8],
     i: usize,
 ) -> State
-    ensures { λ r. ⌜ (after r (cellsOf (now (tags .exit)) (now (words .exit))) ≡ callTurn (now (table .entry)) index (cellsOf (now (tags .entry)) (now (words .entry))) (cellsOf (now (marks .entry)) (now (to .entry))) s (call (rowAt (now (list .entry)) i .b) (rowAt (now (list .entry)) i .c) (arguments (now (list .entry)) (i + 1) (rowCount (now (list .entry)) - (i + 1))))) × (cellsOf (now (marks .exit)) (now (to .exit)) ≡ keptOf (cellsOf (now (marks .entry)) (now (to .entry))) (cellsOf (now (tags .entry)) (now (words .entry))) s) ⌝ }
+    ensures { λ r. ⌜ (after r (cellsOf (now (cells .exit))) ≡ callTurn (now (table .entry)) index (cellsOf (now (cells .entry))) (cellsOf (now (saved .entry))) s (call (rowAt (now (list .entry)) i .b) (rowAt (now (list .entry)) i .c) (arguments (now (list .entry)) (i + 1) (rowCount (now (list .entry)) - (i + 1))))) × (cellsOf (now (saved .exit)) ≡ keptOf (cellsOf (now (saved .entry))) (cellsOf (now (cells .entry))) s) ⌝ }
 {
     let row = table::row_at(list, i);
     let callee = calls::procedure_in(index, row.b as usize);
     let count = frame::control::within(program::local_count(callee));
-    keep_memory(to, marks, words, tags, s);
-    state::empty_cells(words, tags, 16, count as u16);
-    put_arguments(words, tags, list, i);
+    keep_memory(saved, cells, s);
+    state::empty_cells(cells, 16, count as u16);
+    put_arguments(cells, list, i);
     let first = begin(s, row.b, count);
-    let last = run(first, words, tags, table, index, row.c);
-    restore(last, words, tags, to, marks, first)
+    let last = run(first, cells, table, index, row.c);
+    restore(last, cells, saved, first)
 }

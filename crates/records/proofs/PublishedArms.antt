@@ -25,22 +25,22 @@ use Rattle.machine.specs.Views.{operandsIn, localsIn, belowIn, roomsIn, entryIn
 use Rattle.machine.proofs.Views.{length-entries, below-same, rooms-same, down-same, up-same, top-is, second-is, drop-is}
 use Rattle.machine.proofs.Memory.{find-is, length-added, added-same, entries-added, length-removed, removed-same, entries-removed}
 use Rattle.frame.specs.Turning.{Turning, after, broken, ends, settled}
-use Rattle.frame.specs.Operations.{numeralOf, withNumber}
-use Rattle.records.specs.Published.{withEntries, found, movedTo, moveToOf, moveFromOf, globalOf, existsOf}
+use Rattle.frame.specs.Operations.{withNumber}
+use Rattle.records.specs.Published.{withEntries, found, movedTo, moveToOf, takenOut, moveFromOf, globalAt, globalOf, existsOf}
 use Rattle.frame.specs.Meaning.{outcomeOf, doing, Stands, Kept}
 use Rattle.frame.proofs.Settles.{kept, next-is, settle-is, settle-kept, ends-kept}
 use Rattle.references.proofs.TargetsArms.{onward, number-is, number-kept}
 
 module _ (cs : List Operand) (s : State) (st : Stands cs s) where
-  -- the record of entry i
-  abbrev recordAt : ℕ → Operand
-  recordAt i = getD cs (entryCell i + 1) Empty
+  -- what lies in the second cell of entry i
+  abbrev heldAt : ℕ → Operand
+  heldAt i = getD cs (entryCell i + 1) Empty
 
   -- the entry under a key
-  under-is : (y a : ℕ) (absent : MOutcome) (present : ℕ → ℕ → MOutcome) → underEntry (findEntry (entriesIn cs (s .entries)) y a) absent present ≡ cond (ltb (found cs s y a) (s .entries)) (present (firstOf (recordAt (found cs s y a))) (secondOf (recordAt (found cs s y a)))) absent
+  under-is : (y a : ℕ) (absent : MOutcome) (present : ℕ → ℕ → MOutcome) → underEntry (findEntry (entriesIn cs (s .entries)) y a) absent present ≡ cond (ltb (found cs s y a) (s .entries)) (present (firstOf (heldAt (found cs s y a))) (secondOf (heldAt (found cs s y a)))) absent
   under-is y a absent present = rw (find-is cs (s .entries) y a) (go (ltb (found cs s y a) (s .entries)))
     where
-      go : (t : Bool) → underEntry (cond t (some (entryIn cs (found cs s y a))) none) absent present ≡ cond t (present (firstOf (recordAt (found cs s y a))) (secondOf (recordAt (found cs s y a)))) absent
+      go : (t : Bool) → underEntry (cond t (some (entryIn cs (found cs s y a))) none) absent present ≡ cond t (present (firstOf (heldAt (found cs s y a))) (secondOf (heldAt (found cs s y a)))) absent
       go true = refl
       go false = refl
 
@@ -62,24 +62,24 @@ module _ (cs : List Operand) (s : State) (st : Stands cs s) where
   global-is k b d kind others typed =
       let e : b % 256 ≡ b = omega arith in
       rw (top-is cs s, e)
-      (number-is cs s k (topAt cs s 0) _ _ (λ a. rw (under-is b a (mstopped noSuchKey) (λ (c r : ℕ). onward cs s 1 (Refer (Whole c r b)))) (entry-is k (found cs s b a) _ _ (λ l. settle-is cs s st 1 _ (omega (arith, st .low)) k))))
+      (number-is cs s k (topAt cs s 0) (λ (a : ℕ). globalAt cs s b (found cs s b a)) _ (λ a. rw (under-is b a (mstopped noSuchKey) (λ (c r : ℕ). onward cs s 1 (Refer (Whole c r b)))) (entry-is k (found cs s b a) _ _ (λ l. settle-is cs s st 1 _ (omega (arith, st .low)) k))))
 
   pub global-kept : (b : ℕ) → Kept cs s (globalOf cs s b)
-  global-kept b = number-kept cs s (topAt cs s 0) _ (λ a. ends-or-kept (leb (s .entries) (found cs s (b % 256) a)) noSuchKey _ (settle-kept cs s st 1 _ (omega (arith, st .low))))
+  global-kept b = number-kept cs s (topAt cs s 0) (λ (a : ℕ). globalAt cs s (b % 256) (found cs s (b % 256) a)) (λ a. ends-or-kept (leb (s .entries) (found cs s (b % 256) a)) noSuchKey _ (settle-kept cs s st 1 _ (omega (arith, st .low))))
 
   -- Exists
   pub exists-is : (k b d kind others : ℕ) → b < 256 → outcomeOf k (existsOf cs s b) ≡ doing b d kind 1 others cs s 14
   unfolding doings
   exists-is k b d kind others typed =
       let e : b % 256 ≡ b = omega arith in
-      rw (top-is cs s, e) (number-is cs s k (topAt cs s 0) _ _ (λ a. rw (under-is b a (onward cs s 1 (Number 0)) (λ (c r : ℕ). onward cs s 1 (Number 1))) (go (ltb (found cs s b a) (s .entries)))))
+      rw (top-is cs s, e) (number-is cs s k (topAt cs s 0) (λ (a : ℕ). settled cs s 1 (Number (truth (ltb (found cs s b a) (s .entries))))) _ (λ a. rw (under-is b a (onward cs s 1 (Number 0)) (λ (c r : ℕ). onward cs s 1 (Number 1))) (go (ltb (found cs s b a) (s .entries)))))
     where
       go : (t : Bool) → outcomeOf k (settled cs s 1 (Number (truth t))) ≡ cond t (onward cs s 1 (Number 1)) (onward cs s 1 (Number 0))
       go true = settle-is cs s st 1 _ (omega (arith, st .low)) k
       go false = settle-is cs s st 1 _ (omega (arith, st .low)) k
 
   pub exists-kept : (b : ℕ) → Kept cs s (existsOf cs s b)
-  exists-kept b = number-kept cs s (topAt cs s 0) _ (λ a. settle-kept cs s st 1 _ (omega (arith, st .low)))
+  exists-kept b = number-kept cs s (topAt cs s 0) (λ (a : ℕ). settled cs s 1 (Number (truth (ltb (found cs s (b % 256) a) (s .entries))))) (λ a. settle-kept cs s st 1 _ (omega (arith, st .low)))
 
   -- MoveFrom: entry i taken out leaves all else as it was
   module _ (i : ℕ) where
@@ -120,7 +120,7 @@ module _ (cs : List Operand) (s : State) (st : Stands cs s) where
   unfolding doings
   move-from-is k b d kind others typed =
       let e : b % 256 ≡ b = omega arith in
-      rw (top-is cs s, e) (number-is cs s k (topAt cs s 0) _ _ (λ a. rw (under-is b a (mstopped noSuchKey) (λ (c r : ℕ). without a (Record c r b))) (entry-is k (found cs s b a) _ _ (taken a _))))
+      rw (top-is cs s, e) (number-is cs s k (topAt cs s 0) (λ (a : ℕ). takenOut cs s b (found cs s b a)) _ (λ a. rw (under-is b a (mstopped noSuchKey) (λ (c r : ℕ). without a (Record c r b))) (entry-is k (found cs s b a) _ _ (taken a _))))
     where
       without : ℕ → Operand → MOutcome
       without a x = mnext (mstate (mframe (s .serial) (s .procedure) (s .at + 1) (x ∷ drop 1 (operandsIn cs s)) (localsIn cs s)) (belowIn cs (s .depth)) (roomsIn cs) (s .records) (dropEntry (entriesIn cs (s .entries)) b a) (s .frames))
@@ -138,7 +138,7 @@ module _ (cs : List Operand) (s : State) (st : Stands cs s) where
           )
 
   pub move-from-kept : (b : ℕ) → Kept cs s (moveFromOf cs s b)
-  move-from-kept b = number-kept cs s (topAt cs s 0) _ (λ a. ends-or-kept (leb (s .entries) (found cs s (b % 256) a)) noSuchKey _ (taken-kept (found cs s (b % 256) a) _))
+  move-from-kept b = number-kept cs s (topAt cs s 0) (λ (a : ℕ). takenOut cs s (b % 256) (found cs s (b % 256) a)) (λ a. ends-or-kept (leb (s .entries) (found cs s (b % 256) a)) noSuchKey _ (taken-kept (found cs s (b % 256) a) _))
 
   -- MoveTo
   pub move-to-is : (k b d kind others : ℕ) → b < 256 → outcomeOf k (moveToOf cs s b) ≡ doing b d kind 2 others cs s 11
@@ -184,7 +184,7 @@ module _ (cs : List Operand) (s : State) (st : Stands cs s) where
       no-number (Record c m t) = refl
       no-number (Refer r) = refl
 
-      go : (x y : Operand) → outcomeOf k (withNumber cs s (numeralOf x) λ (a : ℕ). movedTo cs s b a y)
+      go : (x y : Operand) → outcomeOf k (withNumber cs s x λ (a : ℕ). movedTo cs s b a y)
           ≡ asRecord y (λ (c r : ℕ). asNumber x λ (a : ℕ). underEntry (findEntry (entriesIn cs (s .entries)) b a) (cond (ltb (length (entriesIn cs (s .entries))) 64) (stored a c r) (mstopped tooManyEntries)) λ (c′ r′ : ℕ). mstopped keyTaken)
       go Empty y = no-number y
       go (Record c m t) y = no-number y
@@ -195,7 +195,7 @@ module _ (cs : List Operand) (s : State) (st : Stands cs s) where
       go (Number a) (Refer r) = refl
 
   pub move-to-kept : (b : ℕ) → Kept cs s (moveToOf cs s b)
-  move-to-kept b = number-kept cs s (topAt cs s 0) _ (λ a. go a (topAt cs s 1))
+  move-to-kept b = number-kept cs s (topAt cs s 0) (λ (a : ℕ). movedTo cs s (b % 256) a (topAt cs s 1)) (λ a. go a (topAt cs s 1))
     where
       room : (a c m : ℕ) → Dec (s .entries < 64) → Kept cs s (cond (leb 64 (s .entries)) (ends cs s tooManyEntries) (after (goneOn (dropped (withEntries s (s .entries + 1)) 2)) (addedIn cs (s .entries) (b % 256) a c m)))
       room a c m (yes h) = rw (lt-leb 64 (s .entries) h) (kept cs _ s _ (length-added cs (s .entries) (b % 256) a c m) (λ r l. added-same cs (s .entries) (b % 256) a c m 672 1824 (inl (omega arith)) (roomCell r) (omega arith) (omega arith)) refl refl (omega arith) (omega arith))

@@ -26,29 +26,21 @@ fn packed(mut s: State, r: u8) -> State
 }
 
 // A record of type y made of the k top operands in room r.
-fn pack_in(s: State, words: &mut [u64], tags: &mut [u8], k: u8, y: u8, r: u8) -> State
-    ensures { λ x. ⌜ after x (cellsOf (now (tags .exit)) (now (words .exit))) ≡ packedIn (cellsOf (now (tags .entry)) (now (words .entry))) s k y r ⌝ }
+fn pack_in(s: State, cells: &mut [u64], k: u8, y: u8, r: u8) -> State
+    ensures { λ x. ⌜ after x (cellsOf (now (cells .exit))) ≡ packedIn (cellsOf (now (cells .entry))) s k y r ⌝ }
 {
     let o = rooms::room_cell(r);
     let rest = s.drop_top(k);
-    state::move_cells(
-        words,
-        tags,
-        o + 1,
-        32 * (s.depth as u16) + (rest.height as u16),
-        k as u16,
-    );
+    state::move_cells(cells, o + 1, rest.operand_cell(rest.height), k as u16);
     state::put(
-        words,
-        tags,
+        cells,
         o as usize,
         state::RECORD,
         state::record_word(s.records, k, y),
     );
     frame::operations::settle(
         packed(s, r),
-        words,
-        tags,
+        cells,
         k,
         state::RECORD,
         state::record_word(s.records, r, y),
@@ -56,17 +48,16 @@ fn pack_in(s: State, words: &mut [u64], tags: &mut [u8], k: u8, y: u8, r: u8) ->
 }
 
 // Pack.
-pub fn pack(s: State, words: &mut [u64], tags: &mut [u8], named: TypeEntry, b: u16) -> State
-    ensures { λ r. ⌜ after r (cellsOf (now (tags .exit)) (now (words .exit))) ≡ packOf (cellsOf (now (tags .entry)) (now (words .entry))) s (named .end - (named .row + 1)) b ⌝ }
+pub fn pack(s: State, cells: &mut [u64], named: TypeEntry, b: u16) -> State
+    ensures { λ r. ⌜ after r (cellsOf (now (cells .exit))) ≡ packOf (cellsOf (now (cells .entry))) s (named .end - (named .row + 1)) b ⌝ }
 {
-    let r = rooms::free_room(words, tags, s.free);
+    let r = rooms::free_room(cells, s.free);
     if 128 <= r {
         return s.stopped(37);
     }
     pack_in(
         s,
-        words,
-        tags,
+        cells,
         (steps::fields_of(named) % 256) as u8,
         (b % 256) as u8,
         r,
@@ -84,28 +75,28 @@ fn unpacked(mut s: State, m: u8) -> State
 }
 
 // The record c in room m broken up.
-fn unpack_from(s: State, words: &mut [u64], tags: &mut [u8], c: u32, m: u8) -> State
-    ensures { λ r. ⌜ after r (cellsOf (now (tags .exit)) (now (words .exit))) ≡ unpackedFrom (cellsOf (now (tags .entry)) (now (words .entry))) s c m ⌝ }
+fn unpack_from(s: State, cells: &mut [u64], c: u32, m: u8) -> State
+    ensures { λ r. ⌜ after r (cellsOf (now (cells .exit))) ≡ unpackedFrom (cellsOf (now (cells .entry))) s c m ⌝ }
 {
-    if !rooms::is_live(words, tags, c, m) {
+    if !rooms::is_live(cells, c, m) {
         return s.stopped(frame::BROKEN);
     }
     let o = rooms::room_cell(m);
-    let k = state::second_at(words, tags, o as usize);
-    let next = unpacked(s, m).drop_top(1).receive(words, tags, o + 1, k);
-    state::clear(words, tags, o as usize);
+    let k = state::second_at(cells, o as usize);
+    let next = unpacked(s, m).drop_top(1).receive(cells, o + 1, k);
+    state::clear(cells, o as usize);
     next.next()
 }
 
 // Unpack.
-pub fn unpack(s: State, words: &mut [u64], tags: &mut [u8]) -> State
-    ensures { λ r. ⌜ after r (cellsOf (now (tags .exit)) (now (words .exit))) ≡ unpackOf (cellsOf (now (tags .entry)) (now (words .entry))) s ⌝ }
+pub fn unpack(s: State, cells: &mut [u64]) -> State
+    ensures { λ r. ⌜ after r (cellsOf (now (cells .exit))) ≡ unpackOf (cellsOf (now (cells .entry))) s ⌝ }
 {
-    let top = s.top(words, tags, 0);
+    let top = s.top(cells, 0);
     match top {
         Operand::Empty => s.stopped(frame::BROKEN),
         Operand::Number(_) => s.stopped(frame::BROKEN),
-        Operand::Record(c, m, _) => unpack_from(s, words, tags, c, m),
+        Operand::Record(c, m, _) => unpack_from(s, cells, c, m),
         Operand::Refer(_) => s.stopped(frame::BROKEN),
     }
 }

@@ -2,10 +2,11 @@
 ghost use mathlib.Core.Path.{_≡_};
 ghost use lib.Dec.{ltb};
 ghost use Rattle.arithmetic.specs.Arithmetic.{truth};
+ghost use Rattle.state.specs.Coding.{valueOf, numberOf};
 ghost use Rattle.state.specs.Cells.{cellsOf};
+ghost use Rattle.state.specs.Frames.{topAt};
 ghost use Rattle.frame.specs.Turning.{after};
-ghost use Rattle.records.specs.Published.{withEntries, publishedAs, movedTo, moveToOf, takenOut, moveFromOf, globalAt, globalOf, existsOf};
-use frame::operations::Numeral;
+ghost use Rattle.records.specs.Published.{withEntries, found, recordAt, referenceAt, publishedAs, moveToOf, takenOut, moveFromOf, globalAt, globalOf, existsOf};
 use state::Operand;
 use state::entries;
 use state::frames::State;
@@ -18,119 +19,95 @@ fn with_entries(mut s: State, n: u8) -> State
     s
 }
 
-// The record c in room m published under type y and address a.
-fn publish(s: State, words: &mut [u64], tags: &mut [u8], y: u8, a: u64, c: u32, m: u8) -> State
-    ensures { λ r. ⌜ after r (cellsOf (now (tags .exit)) (now (words .exit))) ≡ publishedAs (cellsOf (now (tags .entry)) (now (words .entry))) s y a c m ⌝ }
+// The entry under type y and the address on top; as many as there are entries where there is none.
+fn found(s: State, cells: &[u64], y: u8) -> u8
+    ensures { λ r. ⌜ r ≡ found (cellsOf (now (cells .entry))) s y (numberOf (topAt (cellsOf (now (cells .entry))) s 0)) ⌝ }
+{
+    entries::find(cells, s.entries, y, s.number(cells, 0))
+}
+
+// The word of the record of entry i, of type y, and of a reference to it.
+fn entry_word(cells: &[u64], i: u8, y: u8) -> u64
+    ensures { λ r. ⌜ (valueOf 2 r ≡ recordAt (cellsOf (now (cells .entry))) i y) × (valueOf 5 r ≡ referenceAt (cellsOf (now (cells .entry))) i y) ⌝ }
+{
+    let o = (entries::entry_cell(i) as usize) + 1;
+    state::record_word(state::first_at(cells, o), state::second_at(cells, o), y)
+}
+
+// The record c in room m published under type y and the address on top.
+fn publish(s: State, cells: &mut [u64], y: u8, c: u32, m: u8) -> State
+    ensures { λ r. ⌜ after r (cellsOf (now (cells .exit))) ≡ publishedAs (cellsOf (now (cells .entry))) s y (numberOf (topAt (cellsOf (now (cells .entry))) s 0)) c m ⌝ }
 {
     let n = s.entries;
-    if entries::find(words, tags, n, y, a) < n {
+    if found(s, cells, y) < n {
         return s.stopped(33);
     }
     if entries::ENTRIES <= n {
         return s.stopped(38);
     }
-    entries::put_entry(words, tags, n, y, a, c, m);
+    entries::put_entry(cells, n, y, s.number(cells, 0), c, m);
     with_entries(s, n + 1).drop_top(2).next()
 }
 
-// The operand under the address published.
-fn publish_operand(s: State, words: &mut [u64], tags: &mut [u8], y: u8, a: u64, x: Operand) -> State
-    ensures { λ r. ⌜ after r (cellsOf (now (tags .exit)) (now (words .exit))) ≡ movedTo (cellsOf (now (tags .entry)) (now (words .entry))) s y a x ⌝ }
+// MoveTo.
+pub fn move_to(s: State, cells: &mut [u64], b: u16) -> State
+    ensures { λ r. ⌜ after r (cellsOf (now (cells .exit))) ≡ moveToOf (cellsOf (now (cells .entry))) s b ⌝ }
 {
+    if !s.has_number(cells, 0) {
+        return s.stopped(frame::BROKEN);
+    }
+    let x = s.top(cells, 1);
     match x {
         Operand::Empty => s.stopped(frame::BROKEN),
         Operand::Number(_) => s.stopped(frame::BROKEN),
-        Operand::Record(c, m, _) => publish(s, words, tags, y, a, c, m),
+        Operand::Record(c, m, _) => publish(s, cells, (b % 256) as u8, c, m),
         Operand::Refer(_) => s.stopped(frame::BROKEN),
     }
 }
 
-// MoveTo.
-pub fn move_to(s: State, words: &mut [u64], tags: &mut [u8], b: u16) -> State
-    ensures { λ r. ⌜ after r (cellsOf (now (tags .exit)) (now (words .exit))) ≡ moveToOf (cellsOf (now (tags .entry)) (now (words .entry))) s b ⌝ }
-{
-    let top = frame::operations::number_top(s, words, tags, 0);
-    match top {
-        Numeral::None => s.stopped(frame::BROKEN),
-        Numeral::Is(a) => publish_operand(
-            s,
-            words,
-            tags,
-            (b % 256) as u8,
-            a,
-            s.top(words, tags, 1),
-        ),
-    }
-}
-
 // Entry i withdrawn, of type y.
-fn withdraw(s: State, words: &mut [u64], tags: &mut [u8], y: u8, i: u8) -> State
-    ensures { λ r. ⌜ after r (cellsOf (now (tags .exit)) (now (words .exit))) ≡ takenOut (cellsOf (now (tags .entry)) (now (words .entry))) s y i ⌝ }
+fn withdraw(s: State, cells: &mut [u64], y: u8, i: u8) -> State
+    ensures { λ r. ⌜ after r (cellsOf (now (cells .exit))) ≡ takenOut (cellsOf (now (cells .entry))) s y i ⌝ }
 {
     let n = s.entries;
     if n <= i {
         return s.stopped(34);
     }
-    let o = (entries::entry_cell(i) as usize) + 1;
-    let w = state::record_word(
-        state::first_at(words, tags, o),
-        state::second_at(words, tags, o),
-        y,
-    );
-    entries::remove_entry(words, tags, n, i);
-    frame::operations::settle(with_entries(s, n - 1), words, tags, 1, state::RECORD, w)
+    let w = entry_word(cells, i, y);
+    entries::remove_entry(cells, n, i);
+    frame::operations::settle(with_entries(s, n - 1), cells, 1, state::RECORD, w)
 }
 
 // MoveFrom.
-pub fn move_from(s: State, words: &mut [u64], tags: &mut [u8], b: u16) -> State
-    ensures { λ r. ⌜ after r (cellsOf (now (tags .exit)) (now (words .exit))) ≡ moveFromOf (cellsOf (now (tags .entry)) (now (words .entry))) s b ⌝ }
+pub fn move_from(s: State, cells: &mut [u64], b: u16) -> State
+    ensures { λ r. ⌜ after r (cellsOf (now (cells .exit))) ≡ moveFromOf (cellsOf (now (cells .entry))) s b ⌝ }
 {
-    let top = frame::operations::number_top(s, words, tags, 0);
-    let y = (b % 256) as u8;
-    match top {
-        Numeral::None => s.stopped(frame::BROKEN),
-        Numeral::Is(a) => withdraw(
-            s,
-            words,
-            tags,
-            y,
-            entries::find(words, tags, s.entries, y, a),
-        ),
+    if !s.has_number(cells, 0) {
+        return s.stopped(frame::BROKEN);
     }
+    let y = (b % 256) as u8;
+    withdraw(s, cells, y, found(s, cells, y))
 }
 
 // A reference to the record of entry i, of type y.
-fn borrow_entry(s: State, words: &mut [u64], tags: &mut [u8], y: u8, i: u8) -> State
-    ensures { λ r. ⌜ after r (cellsOf (now (tags .exit)) (now (words .exit))) ≡ globalAt (cellsOf (now (tags .entry)) (now (words .entry))) s y i ⌝ }
+fn borrow_entry(s: State, cells: &mut [u64], y: u8, i: u8) -> State
+    ensures { λ r. ⌜ after r (cellsOf (now (cells .exit))) ≡ globalAt (cellsOf (now (cells .entry))) s y i ⌝ }
 {
     if s.entries <= i {
         return s.stopped(34);
     }
-    let o = (entries::entry_cell(i) as usize) + 1;
-    let w = state::whole_word(
-        state::first_at(words, tags, o),
-        state::second_at(words, tags, o),
-        y,
-    );
-    frame::operations::settle(s, words, tags, 1, state::TO_RECORD, w)
+    frame::operations::settle(s, cells, 1, state::TO_RECORD, entry_word(cells, i, y))
 }
 
 // BorrowGlobal.
-pub fn borrow_global(s: State, words: &mut [u64], tags: &mut [u8], b: u16) -> State
-    ensures { λ r. ⌜ after r (cellsOf (now (tags .exit)) (now (words .exit))) ≡ globalOf (cellsOf (now (tags .entry)) (now (words .entry))) s b ⌝ }
+pub fn borrow_global(s: State, cells: &mut [u64], b: u16) -> State
+    ensures { λ r. ⌜ after r (cellsOf (now (cells .exit))) ≡ globalOf (cellsOf (now (cells .entry))) s b ⌝ }
 {
-    let top = frame::operations::number_top(s, words, tags, 0);
-    let y = (b % 256) as u8;
-    match top {
-        Numeral::None => s.stopped(frame::BROKEN),
-        Numeral::Is(a) => borrow_entry(
-            s,
-            words,
-            tags,
-            y,
-            entries::find(words, tags, s.entries, y, a),
-        ),
+    if !s.has_number(cells, 0) {
+        return s.stopped(frame::BROKEN);
     }
+    let y = (b % 256) as u8;
+    borrow_entry(s, cells, y, found(s, cells, y))
 }
 
 // 1 where the first number is below the second, else 0.
@@ -141,15 +118,12 @@ fn below(i: u8, n: u8) -> u64
 }
 
 // Exists.
-pub fn exists(s: State, words: &mut [u64], tags: &mut [u8], b: u16) -> State
-    ensures { λ r. ⌜ after r (cellsOf (now (tags .exit)) (now (words .exit))) ≡ existsOf (cellsOf (now (tags .entry)) (now (words .entry))) s b ⌝ }
+pub fn exists(s: State, cells: &mut [u64], b: u16) -> State
+    ensures { λ r. ⌜ after r (cellsOf (now (cells .exit))) ≡ existsOf (cellsOf (now (cells .entry))) s b ⌝ }
 {
-    let top = frame::operations::number_top(s, words, tags, 0);
-    match top {
-        Numeral::None => s.stopped(frame::BROKEN),
-        Numeral::Is(a) => {
-            let found = entries::find(words, tags, s.entries, (b % 256) as u8, a);
-            frame::operations::settle(s, words, tags, 1, state::NUMBER, below(found, s.entries))
-        }
+    if !s.has_number(cells, 0) {
+        return s.stopped(frame::BROKEN);
     }
+    let r = below(found(s, cells, (b % 256) as u8), s.entries);
+    frame::operations::settle(s, cells, 1, state::NUMBER, r)
 }

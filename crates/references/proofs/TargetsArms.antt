@@ -29,7 +29,7 @@ use Rattle.machine.proofs.Memory.{headIn, up-held, head-past, room-of, field-pu
 use Rattle.references.specs.declared.targets.Target.{Target}
 use Rattle.references.specs.declared.targets.Target.the-variants.{Number as ToNumber, Record as ToRecord, Stale, Impossible}
 use Rattle.frame.specs.Turning.{Turning, after, broken}
-use Rattle.frame.specs.Operations.{numeralOf, withNumber}
+use Rattle.frame.specs.Operations.{withNumber}
 use Rattle.references.specs.Targets.{localOf, localIn, inRoom, inLocal, heldIn, targetOf, targetBy, targetTop, readAt, readOf, borrowedAs, borrowedIn, borrowFieldOf, writtenAt, writeOf}
 use Rattle.frame.specs.Meaning.{outcomeOf, doing, Stands, Kept}
 use Rattle.frame.proofs.Settles.{kept, next-is, settle-is, settle-kept, ends-kept}
@@ -40,13 +40,13 @@ onward cs s n x = mnext (mstate (mframe (s .serial) (s .procedure) (s .at + 1) (
 
 -- an instruction on an operand that is a number, or a reference, and what it keeps
 module _ (cs : List Operand) (s : State) where
-  pub number-is : (k : ℕ) (x : Operand) (f : ℕ → Turning) (g : ℕ → MOutcome) → ((n : ℕ) → outcomeOf k (f n) ≡ g n) → outcomeOf k (withNumber cs s (numeralOf x) f) ≡ asNumber x g
+  pub number-is : (k : ℕ) (x : Operand) (f : ℕ → Turning) (g : ℕ → MOutcome) → ((n : ℕ) → outcomeOf k (f n) ≡ g n) → outcomeOf k (withNumber cs s x f) ≡ asNumber x g
   number-is k Empty f g h = refl
   number-is k (Number n) f g h = h n
   number-is k (Record c m y) f g h = refl
   number-is k (Refer r) f g h = refl
 
-  pub number-kept : (x : Operand) (f : ℕ → Turning) → ((n : ℕ) → Kept cs s (f n)) → Kept cs s (withNumber cs s (numeralOf x) f)
+  pub number-kept : (x : Operand) (f : ℕ → Turning) → ((n : ℕ) → Kept cs s (f n)) → Kept cs s (withNumber cs s x f)
   number-kept Empty f h = ends-kept cs s broken
   number-kept (Number n) f h = h n
   number-kept (Record c m y) f h = ends-kept cs s broken
@@ -362,7 +362,7 @@ module _ (cs : List Operand) (s : State) (st : Stands cs s) where
   unfolding doings
   write-is k b d kind others =
       rw (top-is cs s, second-is cs s)
-      (number-is cs s k (topAt cs s 1) _ _ (λ n. reference-is cs s k (topAt cs s 0) (λ (t : Target). writtenAt cs s t n) _ refl (λ r. rw (leads-is (s .at) (drop 2 (operandsIn cs s)) r) (to n r (targetOf cs s r) refl))))
+      (number-is cs s k (topAt cs s 1) (writtenAt cs s (targetTop cs s)) _ (λ n. reference-is cs s k (topAt cs s 0) (λ (t : Target). writtenAt cs s t n) _ refl (λ r. rw (leads-is (s .at) (drop 2 (operandsIn cs s)) r) (to n r (targetOf cs s r) refl))))
     where
       to : (n : ℕ) (r : Reference) (t : Target) → targetOf cs s r ≡ t → outcomeOf k (writtenAt cs s t n) ≡ numberFrom (meant cs t) (λ (y : ℕ). through k n r)
       to n r (ToNumber o) e = written k n r o (number-cell r o e)
@@ -371,7 +371,7 @@ module _ (cs : List Operand) (s : State) (st : Stands cs s) where
       to n r Impossible e = refl
 
   pub write-kept : Kept cs s (writeOf cs s)
-  write-kept = number-kept cs s (topAt cs s 1) _ (λ n. reference-kept cs s (topAt cs s 0) (λ (t : Target). writtenAt cs s t n) (ends-kept cs s broken) (λ r. to n r (targetOf cs s r) refl))
+  write-kept = number-kept cs s (topAt cs s 1) (writtenAt cs s (targetTop cs s)) (λ n. reference-kept cs s (topAt cs s 0) (λ (t : Target). writtenAt cs s t n) (ends-kept cs s broken) (λ r. to n r (targetOf cs s r) refl))
     where
       headless : (r : Reference) (o : ℕ) → NumberCell cs s r o → (i : ℕ) → roomCell i ≡ o → ⊥
       headless r o (running e h q) i z = omega (arith, st .few, st .shallow)

@@ -10,14 +10,14 @@ use Rattle.state.specs.declared.Reference.the-variants.{Local, Field, Record as
 use Rattle.state.specs.declared.Operand.{Operand}
 use Rattle.state.specs.declared.Operand.the-variants.{Empty, Number, Record, Refer}
 use Rattle.state.specs.declared.frames.State.{State}
-use Rattle.state.specs.Coding.{numberOf, firstOf, thirdOf}
+use Rattle.state.specs.Coding.{isNumber, isRecord, numberOf, firstOf, secondOf, thirdOf}
 use Rattle.state.specs.Layout.{localCell, suspendedCell, roomCell, noCell}
 use Rattle.state.specs.Frames.{topAt, dropped, goneOn}
 use Rattle.state.specs.Rooms.{isLive, fieldCell}
 use Rattle.references.specs.declared.targets.Target.{Target}
 use Rattle.references.specs.declared.targets.Target.the-variants.{Number as ToNumber, Record as ToRecord, Stale, Impossible}
 use Rattle.frame.specs.Turning.{Turning, after, broken, ends, settled}
-use Rattle.frame.specs.Operations.{numeralOf, withNumber}
+use Rattle.frame.specs.Operations.{withNumber}
 
 -- the cell of local l of frame f at depth d
 abbrev pub localOf : ℕ → ℕ → ℕ → ℕ → ℕ → ℕ
@@ -39,10 +39,7 @@ inLocal cs o (Record c m y) = inRoom cs c m
 inLocal cs o (Refer r) = Impossible
 
 abbrev pub heldIn : ℕ → Operand → Target
-heldIn o Empty = Impossible
-heldIn o (Number n) = ToNumber o
-heldIn o (Record c m y) = Impossible
-heldIn o (Refer r) = Impossible
+heldIn o x = cond (isNumber x) (ToNumber o) Impossible
 
 abbrev pub inField : List Operand → ℕ → ℕ → ℕ → Target
 inField cs c m j = cond (isLive (getD cs (roomCell m) Empty) c) (heldIn (fieldCell cs m j) (getD cs (fieldCell cs m j) Empty)) Stale
@@ -80,14 +77,13 @@ writtenAt cs s Stale n = ends cs s staleReference
 writtenAt cs s Impossible n = ends cs s broken
 
 abbrev pub writeOf : List Operand → State → Turning
-writeOf cs s = withNumber cs s (numeralOf (topAt cs s 1)) λ (n : ℕ). writtenAt cs s (targetTop cs s) n
+writeOf cs s = withNumber cs s (topAt cs s 1) λ (n : ℕ). writtenAt cs s (targetTop cs s) n
 
 -- BorrowFld
 abbrev pub borrowedAs : List Operand → State → ℕ → ℕ → ℕ → ℕ → Operand → Turning
-borrowedAs cs s c m y j Empty = ends cs s broken
-borrowedAs cs s c m y j (Number n) = settled cs s 1 (Refer (Field c m y j))
-borrowedAs cs s c m y j (Record a r k) = settled cs s 1 (Refer (Whole a r k))
-borrowedAs cs s c m y j (Refer r) = ends cs s broken
+borrowedAs cs s c m y j x =
+    cond (isNumber x) (settled cs s 1 (Refer (Field c m y j)))
+    (cond (isRecord x) (settled cs s 1 (Refer (Whole (firstOf x) (secondOf x) (thirdOf x)))) (ends cs s broken))
 
 abbrev pub borrowedIn : List Operand → State → Target → ℕ → ℕ → Turning
 borrowedIn cs s (ToNumber o) y j = ends cs s broken

@@ -1,5 +1,5 @@
 -- Laws of a list of calls by the interpreter's account.
-use Prim.Native.Nat.{ℕ, zero, suc, _+_, _-_, _<_, _≤_}
+use Prim.Native.Nat.{ℕ, zero, suc, _+_, _-_, _*_, _<_, _≤_}
 use mathlib.Core.Path.{_≡_, refl, ap, _∙_}
 use mathlib.Core.Bool.{true, false}
 use mathlib.Core.List.{List, _∷_}
@@ -25,10 +25,10 @@ use Rattle.interpreter.specs.Calls.{keptOf, callTurn}
 use Rattle.runs.specs.Lists.{resultsIn, endLine, start, storeText, lineOf, textFrom, textIn}
 
 -- cells of zeros are empty
-cells-empty : (n : ℕ) → cellsOf (replicate n 0) (replicate n 0) ≡ replicate n Empty
+cells-empty : (n : ℕ) → cellsOf (replicate (2 * n) 0) ≡ replicate n Empty
 unfolding cellsOf valueOf values
 cells-empty zero = refl
-cells-empty (suc n) = ap (λ (cs : List Operand). Empty ∷ cs) (cells-empty n)
+cells-empty (suc n) = let e : 2 * suc n ≡ suc (suc (2 * n)) = omega arith in rw e (ap (λ (cs : List Operand). Empty ∷ cs) (cells-empty n))
 
 -- the line of a call by its parts
 pub line-is : (ix : Index) (i : ℕ) (cs : List Operand) (s : State) (buffer : List ℕ) (at : ℕ) {own : ProcedureEntry} {count : ℕ} {results u : List ℕ} {r : ℕ} → own ≡ procedureIn ix (s .procedure)
@@ -63,6 +63,6 @@ module _ (t : List ℕ) (ix : Index) (l : List ℕ) where
         let q : textAt i k cs ks s ≡ storeText cs s = rw (calls-end l i (rowCount l) h) refl in
         rw (e, q) p
 
-  pub text-start : textIn t ix l ≡ textAt 0 0 (cellsOf (replicate 1824 0) (replicate 1824 0)) (cellsOf (replicate 1824 0) (replicate 1824 0)) start
+  pub text-start : textIn t ix l ≡ textAt 0 0 (cellsOf (replicate 3648 0)) (cellsOf (replicate 3648 0)) start
   unfolding textIn callsOf
   text-start = let q : rowCount l - 0 ≡ rowCount l = omega arith in rw (q, cells-empty 1824) refl

@@ -17,8 +17,8 @@ pub const MIN_TEXT: usize = 65536;
 const SHORT_TEXT: u8 = 17;
 
 // The results of a call that is done: the k top operands of its first frame, at most four.
-fn results_of(s: State, words: &[u64], tags: &[u8], k: usize) -> [u64; 4]
-    ensures { λ r. ⌜ r ≡ resultsIn (cellsOf (now (tags .entry)) (now (words .entry))) s k ⌝ }
+fn results_of(s: State, cells: &[u64], k: usize) -> [u64; 4]
+    ensures { λ r. ⌜ r ≡ resultsIn (cellsOf (now (cells .entry))) s k ⌝ }
 {
     let h = s.height as usize;
     if h < k {
@@ -26,10 +26,10 @@ fn results_of(s: State, words: &[u64], tags: &[u8], k: usize) -> [u64; 4]
     }
     let first = h - k;
     [
-        state::number_at(words, tags, first),
-        state::number_at(words, tags, first + 1),
-        state::number_at(words, tags, first + 2),
-        state::number_at(words, tags, first + 3),
+        state::number_at(cells, first),
+        state::number_at(cells, first + 1),
+        state::number_at(cells, first + 2),
+        state::number_at(cells, first + 3),
     ]
 }
 
@@ -55,20 +55,12 @@ fn put_end(
 }
 
 // Puts the line of the call that ended in a state.
-fn put_call(
-    text: &mut [u8],
-    at: usize,
-    call: usize,
-    s: State,
-    words: &[u64],
-    tags: &[u8],
-    index: Index,
-) -> usize
-    ensures { λ r. ⌜ (now (text .exit) ≡ (placed (now (text .entry)) at (lineOf index call (cellsOf (now (tags .entry)) (now (words .entry))) s)) .buffer) × (r ≡ (placed (now (text .entry)) at (lineOf index call (cellsOf (now (tags .entry)) (now (words .entry))) s)) .end) ⌝ }
+fn put_call(text: &mut [u8], at: usize, call: usize, s: State, cells: &[u64], index: Index) -> usize
+    ensures { λ r. ⌜ (now (text .exit) ≡ (placed (now (text .entry)) at (lineOf index call (cellsOf (now (cells .entry))) s)) .buffer) × (r ≡ (placed (now (text .entry)) at (lineOf index call (cellsOf (now (cells .entry))) s)) .end) ⌝ }
 {
     let own = calls::procedure_in(index, s.procedure as usize);
     let count = steps::results_of(own) as usize;
-    let results = results_of(s, words, tags, count);
+    let results = results_of(s, cells, count);
     put_end(
         text,
         at,
@@ -85,35 +77,23 @@ fn run_calls(table: &[u8], list: &[u8], index: Index, text: &mut [u8]) -> usize
     ensures { λ r. ⌜ (now (text .exit) ≡ (placed (now (text .entry)) 0 (textIn (now (table .entry)) index (now (list .entry)))) .buffer) × (r ≡ (placed (now (text .entry)) 0 (textIn (now (table .entry)) index (now (list .entry)))) .end) ⌝ }
 {
     let rows = list.len() / format::ROW_BYTES;
-    let mut words = [0u64; 1824];
-    let mut tags = [0u8; 1824];
-    let mut to = [0u64; 1824];
-    let mut marks = [0u8; 1824];
+    let mut cells = [0u64; 3648];
+    let mut saved = [0u64; 3648];
     let mut s = State::START;
     let mut end: usize = 0;
     let mut call: usize = 0;
     let mut i: usize = 0;
     while i < rows {
         if table::kind_at(list, i) == calls::CALL {
-            s = interpreter::call(
-                s,
-                &mut words,
-                &mut tags,
-                &mut to,
-                &mut marks,
-                table,
-                index,
-                list,
-                i,
-            );
-            end = put_call(text, end, call, s, &words, &tags, index);
+            s = interpreter::call(s, &mut cells, &mut saved, table, index, list, i);
+            end = put_call(text, end, call, s, &cells, index);
             call += 1;
             i += 1;
         } else {
             i += 1;
         }
     }
-    stores::put_entries(text, end, &words, &tags, s.entries)
+    stores::put_entries(text, end, &cells, s.entries)
 }
 
 // Judges the table, then the list, then the buffer, and runs the calls: a refusal, or the length of the text, which stands at the buffer's start.

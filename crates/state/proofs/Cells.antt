@@ -1,85 +1,79 @@
--- Reading and writing the cells of two arrays.
-use Prim.Native.Nat.{ℕ, zero, suc, min, _+_, _/_, _%_, _<_, _≤_}
+-- Reading and writing the cells of an array.
+use Prim.Native.Nat.{ℕ, zero, suc, _+_, _*_, _/_, _%_, _<_, _≤_}
 use mathlib.Core.Path.{_≡_, refl, sym, ap}
-use mathlib.Core.Logic.{_⊎_, inl, inr}
 use mathlib.Core.List.{List, [], _∷_}
-use mathlib.Core.Bool.{Bool, true, false, cond}
+use mathlib.Core.Bool.{Bool, false, cond}
 use native.Mathlib.Omega.{arith}
 use native.Mathlib.Decide.{decLt}
 use native.Mathlib.Numerals.{add-one}
 use borrow.Author.Tests.{lt-ltb, le-ltb, ne-eqb}
-use lib.Dec.{ltb, eqb}
+use lib.Dec.{eqb}
 use lib.ListN.{length, getD, set, List·getD-eq-default}
 use lib.Seq.{set-out}
 use Rattle.state.specs.declared.Reference.{Reference}
 use Rattle.state.specs.declared.Operand.{Operand}
 use Rattle.state.specs.declared.Operand.the-variants.{Empty, Number, Refer}
-use Rattle.state.specs.Coding.{values, valueOf, numberOf, firstOf, secondOf, thirdOf}
-use Rattle.state.specs.Cells.{cellsOf, wordIn, copied, moved, emptied}
+use Rattle.state.specs.Coding.{values, valueOf, isNumber, isRecord, numberOf, firstOf, secondOf, thirdOf}
+use Rattle.state.specs.Cells.{cellsOf, hasTag, wordIn, copied, moved, emptied}
 
--- there are as many cells as both arrays have
-pub cells-length : (ts ws : List ℕ) → length (cellsOf ts ws) ≡ min (length ts) (length ws)
+-- there are half as many cells as numbers
+pub cells-length : (ns : List ℕ) → length (cellsOf ns) ≡ length ns / 2
 unfolding cellsOf
-cells-length [] ws = omega arith
-cells-length (t ∷ ts) [] = omega arith
-cells-length (t ∷ ts) (w ∷ ws) = omega (arith, cells-length ts ws)
+cells-length [] = omega arith
+cells-length (t ∷ []) = omega arith
+cells-length (t ∷ w ∷ ns) = omega (arith, cells-length ns)
+
+-- where the next cell's numbers are
+next-at : (i : ℕ) → 2 * suc i ≡ suc (suc (2 * i))
+next-at i = omega arith
+
+next-word : (n : ℕ) → suc (suc n) + 1 ≡ suc (suc (n + 1))
+next-word n = omega arith
 
 -- a cell read; a cell written
-pub cells-at : (ts ws : List ℕ) (i : ℕ) → i < length ts → i < length ws → getD (cellsOf ts ws) i Empty ≡ valueOf (getD ts i 0) (getD ws i 0)
+pub cells-at : (ns : List ℕ) (i : ℕ) → i < length ns / 2 → getD (cellsOf ns) i Empty ≡ valueOf (getD ns (2 * i) 0) (getD ns (2 * i + 1) 0)
 unfolding cellsOf
-cells-at [] ws i h l = absurd (omega arith)
-cells-at (t ∷ ts) [] i h l = absurd (omega arith)
-cells-at (t ∷ ts) (w ∷ ws) zero h l = refl
-cells-at (t ∷ ts) (w ∷ ws) (suc i) h l = cells-at ts ws i (omega arith) (omega arith)
+cells-at [] i h = absurd (omega arith)
+cells-at (t ∷ []) i h = absurd (omega arith)
+cells-at (t ∷ w ∷ ns) zero h = refl
+cells-at (t ∷ w ∷ ns) (suc i) h = rw (next-at i, next-word (2 * i)) (cells-at ns i (omega arith))
 
-pub cells-set : (ts ws : List ℕ) (i t w : ℕ) → cellsOf (set ts i t) (set ws i w) ≡ set (cellsOf ts ws) i (valueOf t w)
+pub cells-set : (ns : List ℕ) (i t w : ℕ) → cellsOf (set (set ns (2 * i) t) (2 * i + 1) w) ≡ set (cellsOf ns) i (valueOf t w)
 unfolding cellsOf
-cells-set [] ws i t w = refl
-cells-set (a ∷ ts) [] zero t w = refl
-cells-set (a ∷ ts) [] (suc i) t w = refl
-cells-set (a ∷ ts) (b ∷ ws) zero t w = refl
-cells-set (a ∷ ts) (b ∷ ws) (suc i) t w = ap (λ (l : List Operand). valueOf a b ∷ l) (cells-set ts ws i t w)
+cells-set [] i t w = refl
+cells-set (a ∷ []) zero t w = refl
+cells-set (a ∷ []) (suc i) t w = rw (next-at i, next-word (2 * i))
+cells-set (a ∷ b ∷ ns) zero t w = refl
+cells-set (a ∷ b ∷ ns) (suc i) t w = rw (next-at i, next-word (2 * i)) (ap (λ (l : List Operand). valueOf a b ∷ l) (cells-set ns i t w))
 
 -- a tag alone empties a cell
-pub cells-clear : (ts ws : List ℕ) (i : ℕ) → cellsOf (set ts i 0) ws ≡ set (cellsOf ts ws) i Empty
+pub cells-clear : (ns : List ℕ) (i : ℕ) → cellsOf (set ns (2 * i) 0) ≡ set (cellsOf ns) i Empty
 unfolding cellsOf valueOf values
-cells-clear [] ws i = refl
-cells-clear (a ∷ ts) [] zero = refl
-cells-clear (a ∷ ts) [] (suc i) = refl
-cells-clear (a ∷ ts) (b ∷ ws) zero = refl
-cells-clear (a ∷ ts) (b ∷ ws) (suc i) = ap (λ (l : List Operand). valueOf a b ∷ l) (cells-clear ts ws i)
+cells-clear [] i = refl
+cells-clear (a ∷ []) zero = refl
+cells-clear (a ∷ []) (suc i) = rw (next-at i)
+cells-clear (a ∷ b ∷ ns) zero = refl
+cells-clear (a ∷ b ∷ ns) (suc i) = rw (next-at i) (ap (λ (l : List Operand). valueOf a b ∷ l) (cells-clear ns i))
 
--- past the end of either
-module _ (ts ws : List ℕ) (i : ℕ) (h : (length ts ≤ i) ⊎ (length ws ≤ i)) where
-  pub cells-short : length (cellsOf ts ws) ≤ i
-  cells-short = short h
-    where
-      short : (length ts ≤ i) ⊎ (length ws ≤ i) → length (cellsOf ts ws) ≤ i
-      short (inl l) = omega (arith, cells-length ts ws)
-      short (inr l) = omega (arith, cells-length ts ws)
+-- past the end
+module _ (ns : List ℕ) (i : ℕ) (h : length ns / 2 ≤ i) where
+  cells-short : length (cellsOf ns) ≤ i
+  cells-short = omega (arith, cells-length ns)
 
-  pub read-out : Empty ≡ getD (cellsOf ts ws) i Empty
-  read-out = sym (List·getD-eq-default (cellsOf ts ws) Empty cells-short)
+  pub read-out : Empty ≡ getD (cellsOf ns) i Empty
+  read-out = sym (List·getD-eq-default (cellsOf ns) Empty cells-short)
 
-  pub put-out : (x : Operand) → cellsOf ts ws ≡ set (cellsOf ts ws) i x
-  put-out x = sym (set-out (cellsOf ts ws) i x cells-short)
+  pub put-out : (x : Operand) → cellsOf ns ≡ set (cellsOf ns) i x
+  put-out x = sym (set-out (cellsOf ns) i x cells-short)
 
-  pub copy-none : (o : ℕ) → cellsOf ts ws ≡ copied (cellsOf ts ws) o i
+  pub copy-none : (o : ℕ) → cellsOf ns ≡ copied (cellsOf ns) o i
   unfolding copied
-  copy-none o = rw (le-ltb i (length (cellsOf ts ws)) cells-short)
-
-  pub copy-out : (p : ℕ) → cellsOf ts ws ≡ copied (cellsOf ts ws) i p
-  unfolding copied
-  copy-out p = go (ltb p (length (cellsOf ts ws)))
-    where
-      go : (b : Bool) → cellsOf ts ws ≡ cond b (set (cellsOf ts ws) i (getD (cellsOf ts ws) p Empty)) (cellsOf ts ws)
-      go true = put-out _
-      go false = refl
+  copy-none o = rw (le-ltb i (length (cellsOf ns)) cells-short)
 
 -- a cell copied to another
-pub cells-copy : (ts ws : List ℕ) (o p : ℕ) → p < length ts → p < length ws → cellsOf (set ts o (getD ts p 0)) (set ws o (getD ws p 0)) ≡ copied (cellsOf ts ws) o p
+pub cells-copy : (ns ms : List ℕ) (o p : ℕ) → p < length ns / 2 → cellsOf ms ≡ set (cellsOf ns) o (valueOf (getD ns (2 * p) 0) (getD ns (2 * p + 1) 0)) → cellsOf ms ≡ copied (cellsOf ns) o p
 unfolding copied
-cells-copy ts ws o p h l = rw (lt-ltb p (length (cellsOf ts ws)) (omega (arith, cells-length ts ws)), cells-at ts ws p h l) (cells-set ts ws o (getD ts p 0) (getD ws p 0))
+cells-copy ns ms o p h e = rw (lt-ltb p (length (cellsOf ns)) (omega (arith, cells-length ns)), cells-at ns p h) e
 
 -- one more cell moved; one more emptied
 pub moved-more : (cs ds es : List Operand) (to from j : ℕ) → ds ≡ moved cs to from j → es ≡ copied ds (to + j) (from + j) → es ≡ moved cs to from (j + 1)
@@ -91,17 +85,51 @@ unfolding emptied
 emptied-more cs ds es at j p q = rw (add-one j, ← p) q
 
 -- what is read of the operand in a cell is read of the word with that tag
-module _ (f : Operand → ℕ) (g : ℕ → ℕ) (k : ℕ) (a : (t w : ℕ) → f (valueOf t w) ≡ g (cond (eqb t k) w 0)) (b : f Empty ≡ g 0) (ts ws : List ℕ) (o : ℕ) where
-  pub read-as : f (getD (cellsOf ts ws) o Empty) ≡ g (wordIn ts ws o k)
-  read-as = go (decLt o (length ws)) (decLt o (length ts))
+module _ (f : Operand → ℕ) (g : ℕ → ℕ) (k : ℕ) (a : (t w : ℕ) → f (valueOf t w) ≡ g (cond (eqb t k) w 0)) (b : f Empty ≡ g 0) (ns : List ℕ) (o : ℕ) where
+  read-as : f (getD (cellsOf ns) o Empty) ≡ g (wordIn ns o k)
+  read-as = go (decLt o (length ns / 2))
     where
-      go : Dec (o < length ws) → Dec (o < length ts) → f (getD (cellsOf ts ws) o Empty) ≡ g (wordIn ts ws o k)
-      go (yes l) (yes h) = rw (lt-ltb o (length ws) l, lt-ltb o (length ts) h, cells-at ts ws o h l) (a _ _)
-      go (yes l) (no h) = rw (lt-ltb o (length ws) l, le-ltb o (length ts) (omega arith), ← read-out ts ws o (inl (omega arith))) b
-      go (no l) h = rw (le-ltb o (length ws) (omega arith), ← read-out ts ws o (inr (omega arith))) b
+      go : Dec (o < length ns / 2) → f (getD (cellsOf ns) o Empty) ≡ g (wordIn ns o k)
+      go (yes h) = rw (lt-ltb o (length ns / 2) h, cells-at ns o h) (a _ _)
+      go (no h) = rw (le-ltb o (length ns / 2) (omega arith), ← read-out ns o (omega arith)) b
+
+-- whether a number is in a cell, and whether a record is
+module _ (f : Operand → Bool) (k : ℕ) (a : (t w : ℕ) → f (valueOf t w) ≡ eqb t k) (b : f Empty ≡ false) (ns : List ℕ) (o : ℕ) where
+  told-as : f (getD (cellsOf ns) o Empty) ≡ hasTag ns o k
+  told-as = go (decLt o (length ns / 2))
+    where
+      go : Dec (o < length ns / 2) → f (getD (cellsOf ns) o Empty) ≡ hasTag ns o k
+      go (yes h) = rw (lt-ltb o (length ns / 2) h, cells-at ns o h) (a _ _)
+      go (no h) = rw (le-ltb o (length ns / 2) (omega arith), ← read-out ns o (omega arith)) b
+
+pub number-told : (ns : List ℕ) (o : ℕ) → isNumber (getD (cellsOf ns) o Empty) ≡ hasTag ns o 1
+unfolding valueOf values
+number-told = told-as isNumber 1 tag refl
+  where
+    tag : (t w : ℕ) → isNumber (valueOf t w) ≡ eqb t 1
+    tag zero w = refl
+    tag (suc zero) w = refl
+    tag (suc (suc zero)) w = refl
+    tag (suc (suc (suc zero))) w = refl
+    tag (suc (suc (suc (suc zero)))) w = refl
+    tag (suc (suc (suc (suc (suc zero))))) w = refl
+    tag (suc (suc (suc (suc (suc (suc t)))))) w = rw (ne-eqb (suc (suc (suc (suc (suc (suc t)))))) 1 (omega arith))
+
+pub record-told : (ns : List ℕ) (o : ℕ) → isRecord (getD (cellsOf ns) o Empty) ≡ hasTag ns o 2
+unfolding valueOf values
+record-told = told-as isRecord 2 tag refl
+  where
+    tag : (t w : ℕ) → isRecord (valueOf t w) ≡ eqb t 2
+    tag zero w = refl
+    tag (suc zero) w = refl
+    tag (suc (suc zero)) w = refl
+    tag (suc (suc (suc zero))) w = refl
+    tag (suc (suc (suc (suc zero)))) w = refl
+    tag (suc (suc (suc (suc (suc zero))))) w = refl
+    tag (suc (suc (suc (suc (suc (suc t)))))) w = rw (ne-eqb (suc (suc (suc (suc (suc (suc t)))))) 2 (omega arith))
 
 -- the number in a cell; the numbers of the record in it
-pub number-in : (ts ws : List ℕ) (o : ℕ) → numberOf (getD (cellsOf ts ws) o Empty) ≡ wordIn ts ws o 1
+pub number-in : (ns : List ℕ) (o : ℕ) → numberOf (getD (cellsOf ns) o Empty) ≡ wordIn ns o 1
 unfolding valueOf values
 number-in = read-as numberOf (λ w. w) 1 tag refl
   where
@@ -115,7 +143,7 @@ number-in = read-as numberOf (λ w. w) 1 tag refl
     tag (suc (suc (suc (suc (suc (suc t)))))) w = rw (ne-eqb (suc (suc (suc (suc (suc (suc t)))))) 1 (omega arith))
 
 pub record-in : (f : Operand → ℕ) (g : ℕ → ℕ) → f Empty ≡ g 0 → ((n : ℕ) → f (Number n) ≡ g 0) → ((r : Reference) → f (Refer r) ≡ g 0)
-    → ((w : ℕ) → f (valueOf 2 w) ≡ g w) → (ts ws : List ℕ) (o : ℕ) → f (getD (cellsOf ts ws) o Empty) ≡ g (wordIn ts ws o 2)
+    → ((w : ℕ) → f (valueOf 2 w) ≡ g w) → (ns : List ℕ) (o : ℕ) → f (getD (cellsOf ns) o Empty) ≡ g (wordIn ns o 2)
 unfolding valueOf values
 record-in f g e n r h = read-as f g 2 tag e
   where
@@ -128,14 +156,14 @@ record-in f g e n r h = read-as f g 2 tag e
     tag (suc (suc (suc (suc (suc zero))))) w = r _
     tag (suc (suc (suc (suc (suc (suc t)))))) w = rw (ne-eqb (suc (suc (suc (suc (suc (suc t)))))) 2 (omega arith)) e
 
-pub first-in : (ts ws : List ℕ) (o : ℕ) → firstOf (getD (cellsOf ts ws) o Empty) ≡ wordIn ts ws o 2 / 4294967296
+pub first-in : (ns : List ℕ) (o : ℕ) → firstOf (getD (cellsOf ns) o Empty) ≡ wordIn ns o 2 / 4294967296
 unfolding valueOf values
 first-in = record-in firstOf (λ w. w / 4294967296) refl (λ n. refl) (λ r. refl) (λ w. refl)
 
-pub second-in : (ts ws : List ℕ) (o : ℕ) → secondOf (getD (cellsOf ts ws) o Empty) ≡ wordIn ts ws o 2 / 16777216 % 256
+pub second-in : (ns : List ℕ) (o : ℕ) → secondOf (getD (cellsOf ns) o Empty) ≡ wordIn ns o 2 / 16777216 % 256
 unfolding valueOf values
 second-in = record-in secondOf (λ w. w / 16777216 % 256) refl (λ n. refl) (λ r. refl) (λ w. refl)
 
-pub third-in : (ts ws : List ℕ) (o : ℕ) → thirdOf (getD (cellsOf ts ws) o Empty) ≡ wordIn ts ws o 2 / 65536 % 256
+pub third-in : (ns : List ℕ) (o : ℕ) → thirdOf (getD (cellsOf ns) o Empty) ≡ wordIn ns o 2 / 65536 % 256
 unfolding valueOf values
 third-in = record-in thirdOf (λ w. w / 65536 % 256) refl (λ n. refl) (λ r. refl) (λ w. refl)

@@ -33,7 +33,13 @@ values w =
 unfoldable pub valueOf : ℕ → ℕ → Operand
 valueOf tag w = getD (values w) tag Empty
 
--- whether a record is in a cell; the number in it; the three numbers of the record in it
+-- whether a number is in a cell, and whether a record is; the number in it; the three numbers of the record in it
+abbrev pub isNumber : Operand → Bool
+isNumber Empty = false
+isNumber (Number n) = true
+isNumber (Record s m y) = false
+isNumber (Refer r) = false
+
 abbrev pub isRecord : Operand → Bool
 isRecord Empty = false
 isRecord (Number n) = false

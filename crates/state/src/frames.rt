@@ -1,8 +1,9 @@
 // The running frame and the counts of the machine, by value; the frames below it lie in the cells.
 ghost use mathlib.Core.Path.{_≡_};
-ghost use Prim.Native.Nat.{_-_};
-ghost use Rattle.state.specs.Coding.{valueOf};
+ghost use Prim.Native.Nat.{_+_, _-_, _<_};
+ghost use Rattle.state.specs.Coding.{valueOf, isNumber, numberOf};
 ghost use Rattle.state.specs.Cells.{cellsOf};
+ghost use Rattle.state.specs.Layout.{operandCell, localCell, suspendedCell};
 ghost use Rattle.state.specs.Frames.{pushed, pushedIn, topAt, dropped, goneTo, goneOn, stoppedWith, loadedIn, clearedIn, storedIn, suspendedIn, resumed, entered, enteredIn, received, receivedIn, nextSerial};
 use crate::Operand;
 
@@ -38,6 +39,13 @@ pub fn rest(n: u8, k: u8) -> u8
     if k <= n { n - k } else { 0 }
 }
 
+// The first of the two cells of the suspended frame at depth d.
+pub fn suspended_cell(d: u8) -> usize
+    ensures { λ r. ⌜ r ≡ suspendedCell d ⌝ }
+{
+    512 + 2 * (d as usize)
+}
+
 impl State {
     // Before the first call.
     pub const START: State = State {
@@ -55,37 +63,65 @@ impl State {
         free: 0,
     };
 
+    // The cell of operand i from the bottom, and of local l.
+    pub fn operand_cell(self, i: u8) -> u16
+        ensures { λ r. ⌜ r ≡ operandCell (self .depth) + i ⌝ }
+    {
+        32 * (self.depth as u16) + (i as u16)
+    }
+
+    fn local_cell(self, l: u16) -> usize
+        ensures { λ r. ⌜ r ≡ localCell (self .depth) + l ⌝ }
+    {
+        32 * (self.depth as usize) + 16 + (l as usize)
+    }
+
     // Pushes an operand, where there is room.
-    pub fn push(mut self, words: &mut [u64], tags: &mut [u8], tag: u8, w: u64) -> Self
-        ensures { λ r. ⌜ (r ≡ pushed self) × (cellsOf (now (tags .exit)) (now (words .exit)) ≡ pushedIn (cellsOf (now (tags .entry)) (now (words .entry))) self (valueOf tag w)) ⌝ }
+    pub fn push(mut self, cells: &mut [u64], tag: u64, w: u64) -> Self
+        ensures { λ r. ⌜ (r ≡ pushed self) × (cellsOf (now (cells .exit)) ≡ pushedIn (cellsOf (now (cells .entry))) self (valueOf tag w)) ⌝ }
     {
         let h = self.height;
         if h < 16 {
-            crate::put(
-                words,
-                tags,
-                32 * (self.depth as usize) + (h as usize),
-                tag,
-                w,
-            );
+            crate::put(cells, self.operand_cell(h) as usize, tag, w);
             self.height = h + 1;
         }
         self
     }
 
-    // The operand number k from the top, empty where there are not so many.
-    pub fn top(self, words: &[u64], tags: &[u8], k: u8) -> Operand
-        ensures { λ r. ⌜ r ≡ topAt (cellsOf (now (tags .entry)) (now (words .entry))) self k ⌝ }
+    // The cell of the operand number k from the top.
+    fn top_cell(self, k: u8) -> usize
+        requires { ⌜ k < self .height ⌝ }
+        ensures { λ r. ⌜ r ≡ operandCell (self .depth) + (self .height - 1 - k) ⌝ }
     {
-        let h = self.height;
-        if k < h {
-            return crate::cell(
-                words,
-                tags,
-                32 * (self.depth as usize) + ((h - 1 - k) as usize),
-            );
+        self.operand_cell(self.height - 1 - k) as usize
+    }
+
+    // The operand number k from the top, empty where there are not so many; whether it is a number; the number that it is, else 0.
+    pub fn top(self, cells: &[u64], k: u8) -> Operand
+        ensures { λ r. ⌜ r ≡ topAt (cellsOf (now (cells .entry))) self k ⌝ }
+    {
+        if k < self.height {
+            return crate::cell(cells, self.top_cell(k));
         }
         Operand::Empty
+    }
+
+    pub fn has_number(self, cells: &[u64], k: u8) -> bool
+        ensures { λ r. ⌜ r ≡ isNumber (topAt (cellsOf (now (cells .entry))) self k) ⌝ }
+    {
+        if k < self.height {
+            return crate::is_number(cells, self.top_cell(k));
+        }
+        false
+    }
+
+    pub fn number(self, cells: &[u64], k: u8) -> u64
+        ensures { λ r. ⌜ r ≡ numberOf (topAt (cellsOf (now (cells .entry))) self k) ⌝ }
+    {
+        if k < self.height {
+            return crate::number_at(cells, self.top_cell(k));
+        }
+        0
     }
 
     // Takes k operands, all where there are not so many.
@@ -124,51 +160,41 @@ impl State {
     }
 
     // Pushes what local l holds, empty where there is no such local, where there is room.
-    pub fn load(mut self, words: &mut [u64], tags: &mut [u8], l: u16) -> Self
-        ensures { λ r. ⌜ (r ≡ pushed self) × (cellsOf (now (tags .exit)) (now (words .exit)) ≡ loadedIn (cellsOf (now (tags .entry)) (now (words .entry))) self l) ⌝ }
+    pub fn load(mut self, cells: &mut [u64], l: u16) -> Self
+        ensures { λ r. ⌜ (r ≡ pushed self) × (cellsOf (now (cells .exit)) ≡ loadedIn (cellsOf (now (cells .entry))) self l) ⌝ }
     {
         let h = self.height;
         if 16 <= h {
             return self;
         }
-        let o = 32 * (self.depth as usize) + (h as usize);
+        let o = self.operand_cell(h) as usize;
         self.height = h + 1;
         if l < (self.count as u16) {
-            crate::copy(
-                words,
-                tags,
-                o,
-                32 * (self.depth as usize) + 16 + (l as usize),
-            );
+            crate::copy(cells, o, self.local_cell(l));
             return self;
         }
-        crate::clear(words, tags, o);
+        crate::clear(cells, o);
         self
     }
 
     // Empties local l, if there is one.
-    pub fn clear(self, words: &[u64], tags: &mut [u8], l: u16)
-        ensures { λ _. ⌜ cellsOf (now (tags .exit)) (now (words .entry)) ≡ clearedIn (cellsOf (now (tags .entry)) (now (words .entry))) self l ⌝ }
+    pub fn clear(self, cells: &mut [u64], l: u16)
+        ensures { λ _. ⌜ cellsOf (now (cells .exit)) ≡ clearedIn (cellsOf (now (cells .entry))) self l ⌝ }
     {
         if l < (self.count as u16) {
-            crate::clear(words, tags, 32 * (self.depth as usize) + 16 + (l as usize));
+            crate::clear(cells, self.local_cell(l));
         }
     }
 
     // Moves the top operand to local l, if there are both.
-    pub fn store(self, words: &mut [u64], tags: &mut [u8], l: u16) -> Self
-        ensures { λ r. ⌜ (r ≡ dropped self 1) × (cellsOf (now (tags .exit)) (now (words .exit)) ≡ storedIn (cellsOf (now (tags .entry)) (now (words .entry))) self l) ⌝ }
+    pub fn store(self, cells: &mut [u64], l: u16) -> Self
+        ensures { λ r. ⌜ (r ≡ dropped self 1) × (cellsOf (now (cells .exit)) ≡ storedIn (cellsOf (now (cells .entry))) self l) ⌝ }
     {
         let next = self.drop_top(1);
         let h = self.height;
         if 0 < h {
             if l < (self.count as u16) {
-                crate::copy(
-                    words,
-                    tags,
-                    32 * (self.depth as usize) + 16 + (l as usize),
-                    32 * (self.depth as usize) + ((h - 1) as usize),
-                );
+                crate::copy(cells, self.local_cell(l), self.top_cell(0));
                 return next;
             }
             return next;
@@ -177,20 +203,18 @@ impl State {
     }
 
     // Writes the running frame into its two cells among those of suspended frames.
-    pub fn suspend(self, words: &mut [u64], tags: &mut [u8])
-        ensures { λ _. ⌜ cellsOf (now (tags .exit)) (now (words .exit)) ≡ suspendedIn (cellsOf (now (tags .entry)) (now (words .entry))) self ⌝ }
+    pub fn suspend(self, cells: &mut [u64])
+        ensures { λ _. ⌜ cellsOf (now (cells .exit)) ≡ suspendedIn (cellsOf (now (cells .entry))) self ⌝ }
     {
-        let o = 512 + 2 * (self.depth as usize);
+        let o = suspended_cell(self.depth);
         crate::put(
-            words,
-            tags,
+            cells,
             o,
             crate::RECORD,
             crate::record_word(self.serial, self.height, self.count),
         );
         crate::put(
-            words,
-            tags,
+            cells,
             o + 1,
             crate::NUMBER,
             65536 * (self.procedure as u64) + (self.at as u64),
@@ -198,45 +222,32 @@ impl State {
     }
 
     // The suspended frame below runs again.
-    pub fn resume(mut self, words: &[u64], tags: &[u8]) -> Self
-        ensures { λ r. ⌜ r ≡ resumed (cellsOf (now (tags .entry)) (now (words .entry))) self ⌝ }
+    pub fn resume(mut self, cells: &[u64]) -> Self
+        ensures { λ r. ⌜ r ≡ resumed (cellsOf (now (cells .entry))) self ⌝ }
     {
         if self.depth == 0 {
             return self;
         }
         let d = self.depth - 1;
-        let o = 512 + 2 * (d as usize);
-        let n = crate::number_at(words, tags, o + 1);
-        self.serial = crate::first_at(words, tags, o);
+        let o = suspended_cell(d);
+        let n = crate::number_at(cells, o + 1);
+        self.serial = crate::first_at(cells, o);
         self.procedure = (n / 65536 % 65536) as u16;
         self.at = (n % 65536) as u16;
         self.depth = d;
-        self.height = crate::second_at(words, tags, o);
-        self.count = crate::third_at(words, tags, o);
+        self.height = crate::second_at(cells, o);
+        self.count = crate::third_at(cells, o);
         self
     }
 
     // A frame of a procedure that has `count` locals begins above the running one, whose k operands above the top are its first locals.
-    pub fn enter(
-        mut self,
-        words: &mut [u64],
-        tags: &mut [u8],
-        procedure: u16,
-        k: u8,
-        count: u8,
-    ) -> Self
-        ensures { λ r. ⌜ (r ≡ entered self procedure count) × (cellsOf (now (tags .exit)) (now (words .exit)) ≡ enteredIn (cellsOf (now (tags .entry)) (now (words .entry))) self k count) ⌝ }
+    pub fn enter(mut self, cells: &mut [u64], procedure: u16, k: u8, count: u8) -> Self
+        ensures { λ r. ⌜ (r ≡ entered self procedure count) × (cellsOf (now (cells .exit)) ≡ enteredIn (cellsOf (now (cells .entry))) self k count) ⌝ }
     {
         let d = self.depth;
         let base = 32 * (d as u16);
-        crate::empty_cells(words, tags, base + 48 + (k as u16), rest(count, k) as u16);
-        crate::move_cells(
-            words,
-            tags,
-            base + 48,
-            base + (self.height as u16),
-            k as u16,
-        );
+        crate::empty_cells(cells, base + 48 + (k as u16), rest(count, k) as u16);
+        crate::move_cells(cells, base + 48, base + (self.height as u16), k as u16);
         self.serial = self.frames;
         self.procedure = procedure;
         self.at = 0;
@@ -250,19 +261,13 @@ impl State {
     }
 
     // Pushes what k cells hold, the first first, where there is room for all.
-    pub fn receive(mut self, words: &mut [u64], tags: &mut [u8], from: u16, k: u8) -> Self
-        ensures { λ r. ⌜ (r ≡ received self k) × (cellsOf (now (tags .exit)) (now (words .exit)) ≡ receivedIn (cellsOf (now (tags .entry)) (now (words .entry))) self from k) ⌝ }
+    pub fn receive(mut self, cells: &mut [u64], from: u16, k: u8) -> Self
+        ensures { λ r. ⌜ (r ≡ received self k) × (cellsOf (now (cells .exit)) ≡ receivedIn (cellsOf (now (cells .entry))) self from k) ⌝ }
     {
         let h = self.height;
         if h <= 16 {
             if k <= 16 - h {
-                crate::move_cells(
-                    words,
-                    tags,
-                    32 * (self.depth as u16) + (h as u16),
-                    from,
-                    k as u16,
-                );
+                crate::move_cells(cells, self.operand_cell(h), from, k as u16);
                 self.height = h + k;
                 return self;
             }

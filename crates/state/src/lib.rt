@@ -1,10 +1,9 @@
-// The machine's state: numbers by value, and cells in two lent arrays of numbers. A cell is a tag and a word (specs/Coding); which cell holds what is
-// said in specs/Layout.
+// The machine's state: numbers by value, and cells in a lent array of numbers. A cell is two numbers, a tag and a word (specs/Coding); which cell holds
+// what is said in specs/Layout.
 ghost use mathlib.Core.Path.{_≡_};
-ghost use lib.Dec.{eqb};
 ghost use lib.ListN.{getD, set};
-ghost use Rattle.state.specs.Coding.{packed, Small, valueOf, isRecord, numberOf, firstOf, secondOf, thirdOf};
-ghost use Rattle.state.specs.Cells.{cellsOf, wordIn, copied, moved, emptied};
+ghost use Rattle.state.specs.Coding.{packed, Small, valueOf, isNumber, isRecord, numberOf, firstOf, secondOf, thirdOf};
+ghost use Rattle.state.specs.Cells.{cellsOf, hasTag, wordIn, copied, moved, emptied};
 ghost use Rattle.state.specs.declared.Operand.the-variants.{Empty, Number, Record, Refer};
 ghost use Rattle.state.specs.declared.Reference.the-variants.{Local, Field, Record as Whole};
 
@@ -29,17 +28,17 @@ pub enum Operand {
 }
 
 // The tags of cells.
-pub const EMPTY: u8 = 0;
+pub const EMPTY: u64 = 0;
 
-pub const NUMBER: u8 = 1;
+pub const NUMBER: u64 = 1;
 
-pub const RECORD: u8 = 2;
+pub const RECORD: u64 = 2;
 
-pub const TO_LOCAL: u8 = 3;
+pub const TO_LOCAL: u64 = 3;
 
-pub const TO_FIELD: u8 = 4;
+pub const TO_FIELD: u64 = 4;
 
-pub const TO_RECORD: u8 = 5;
+pub const TO_RECORD: u64 = 5;
 
 // Four numbers in a word.
 fn packed(s: u32, m: u8, y: u8, k: u16) -> u64
@@ -48,9 +47,9 @@ fn packed(s: u32, m: u8, y: u8, k: u16) -> u64
     4294967296 * (s as u64) + 16777216 * (m as u64) + 65536 * (y as u64) + (k as u64)
 }
 
-// The words of a record and of references.
+// The words of references, that of a record also as the word of the record.
 pub fn record_word(s: u32, m: u8, y: u8) -> u64
-    ensures { λ r. ⌜ valueOf 2 r ≡ Record s m y ⌝ }
+    ensures { λ r. ⌜ (valueOf 2 r ≡ Record s m y) × (valueOf 5 r ≡ Refer (Whole s m y)) ⌝ }
 {
     packed(s, m, y, 0)
 }
@@ -67,14 +66,8 @@ pub fn field_word(s: u32, m: u8, y: u8, j: u8) -> u64
     packed(s, m, y, j as u16)
 }
 
-pub fn whole_word(s: u32, m: u8, y: u8) -> u64
-    ensures { λ r. ⌜ valueOf 5 r ≡ Refer (Whole s m y) ⌝ }
-{
-    packed(s, m, y, 0)
-}
-
 // What a tag and a word stand for.
-pub fn value_of(tag: u8, w: u64) -> Operand
+pub fn value_of(tag: u64, w: u64) -> Operand
     ensures { λ r. ⌜ r ≡ valueOf tag w ⌝ }
 {
     let s = (w / 4294967296) as u32;
@@ -87,150 +80,142 @@ pub fn value_of(tag: u8, w: u64) -> Operand
         3 => Operand::Refer(Reference::Local(s, m, y, (w % 65536) as u16)),
         4 => Operand::Refer(Reference::Field(s, m, y, (w % 256) as u8)),
         5 => Operand::Refer(Reference::Record(s, m, y)),
-        6..=255 => Operand::Empty,
+        6..=18446744073709551615 => Operand::Empty,
     }
 }
 
 // What cell o holds.
-pub fn cell(words: &[u64], tags: &[u8], o: usize) -> Operand
-    ensures { λ r. ⌜ r ≡ getD (cellsOf (now (tags .entry)) (now (words .entry))) o Empty ⌝ }
+pub fn cell(cells: &[u64], o: usize) -> Operand
+    ensures { λ r. ⌜ r ≡ getD (cellsOf (now (cells .entry))) o Empty ⌝ }
 {
-    if o < words.len() {
-        if o < tags.len() {
-            return value_of(tags[o], words[o]);
-        }
+    if o < cells.len() / 2 {
+        let at = 2 * o;
+        return value_of(cells[at], cells[at + 1]);
     }
     Operand::Empty
 }
 
-// Whether a record is in cell o.
-pub fn is_record(words: &[u64], tags: &[u8], o: usize) -> bool
-    ensures { λ r. ⌜ r ≡ isRecord (getD (cellsOf (now (tags .entry)) (now (words .entry))) o Empty) ⌝ }
+// Whether cell o has this tag.
+fn has_tag(cells: &[u64], o: usize, tag: u64) -> bool
+    ensures { λ r. ⌜ r ≡ hasTag (now (cells .entry)) o tag ⌝ }
 {
-    let x = cell(words, tags, o);
-    match x {
-        Operand::Empty => false,
-        Operand::Number(_) => false,
-        Operand::Record(_, _, _) => true,
-        Operand::Refer(_) => false,
+    if o < cells.len() / 2 {
+        return cells[2 * o] == tag;
     }
+    false
+}
+
+// Whether a number is in cell o; whether a record is.
+pub fn is_number(cells: &[u64], o: usize) -> bool
+    ensures { λ r. ⌜ r ≡ isNumber (getD (cellsOf (now (cells .entry))) o Empty) ⌝ }
+{
+    has_tag(cells, o, NUMBER)
+}
+
+pub fn is_record(cells: &[u64], o: usize) -> bool
+    ensures { λ r. ⌜ r ≡ isRecord (getD (cellsOf (now (cells .entry))) o Empty) ⌝ }
+{
+    has_tag(cells, o, RECORD)
 }
 
 // The word of cell o if it has this tag, else 0.
-fn word_at(words: &[u64], tags: &[u8], o: usize, tag: u8) -> u64
-    ensures { λ r. ⌜ r ≡ wordIn (now (tags .entry)) (now (words .entry)) o tag ⌝ }
+fn word_at(cells: &[u64], o: usize, tag: u64) -> u64
+    ensures { λ r. ⌜ r ≡ wordIn (now (cells .entry)) o tag ⌝ }
 {
-    if o < words.len() {
-        if o < tags.len() {
-            if tags[o] == tag {
-                return words[o];
-            }
+    if o < cells.len() / 2 {
+        let at = 2 * o;
+        if cells[at] == tag {
+            return cells[at + 1];
         }
     }
     0
 }
 
 // The number in cell o, 0 where there is none.
-pub fn number_at(words: &[u64], tags: &[u8], o: usize) -> u64
-    ensures { λ r. ⌜ r ≡ numberOf (getD (cellsOf (now (tags .entry)) (now (words .entry))) o Empty) ⌝ }
+pub fn number_at(cells: &[u64], o: usize) -> u64
+    ensures { λ r. ⌜ r ≡ numberOf (getD (cellsOf (now (cells .entry))) o Empty) ⌝ }
 {
-    word_at(words, tags, o, NUMBER)
+    word_at(cells, o, NUMBER)
 }
 
-// Whether the number in cell o is n; 0 counts where there is none.
-pub fn is_number(words: &[u64], tags: &[u8], o: usize, n: u64) -> bool
-    ensures { λ r. ⌜ r ≡ eqb (numberOf (getD (cellsOf (now (tags .entry)) (now (words .entry))) o Empty)) n ⌝ }
+// The word of the record in cell o, as that of a reference to it.
+pub fn record_at(cells: &[u64], o: usize) -> u64
+    ensures { λ r. ⌜ valueOf 5 r ≡ Refer (Whole (firstOf (getD (cellsOf (now (cells .entry))) o Empty)) (secondOf (getD (cellsOf (now (cells .entry))) o Empty)) (thirdOf (getD (cellsOf (now (cells .entry))) o Empty))) ⌝ }
 {
-    if o < words.len() {
-        if o < tags.len() {
-            if tags[o] == NUMBER {
-                return words[o] == n;
-            }
-            return 0 == n;
-        }
-        return 0 == n;
-    }
-    0 == n
+    word_at(cells, o, RECORD)
 }
 
 // The three numbers of the record in cell o, 0 where there is none.
-pub fn first_at(words: &[u64], tags: &[u8], o: usize) -> u32
-    ensures { λ r. ⌜ r ≡ firstOf (getD (cellsOf (now (tags .entry)) (now (words .entry))) o Empty) ⌝ }
+pub fn first_at(cells: &[u64], o: usize) -> u32
+    ensures { λ r. ⌜ r ≡ firstOf (getD (cellsOf (now (cells .entry))) o Empty) ⌝ }
 {
-    (word_at(words, tags, o, RECORD) / 4294967296) as u32
+    (word_at(cells, o, RECORD) / 4294967296) as u32
 }
 
-pub fn second_at(words: &[u64], tags: &[u8], o: usize) -> u8
-    ensures { λ r. ⌜ r ≡ secondOf (getD (cellsOf (now (tags .entry)) (now (words .entry))) o Empty) ⌝ }
+pub fn second_at(cells: &[u64], o: usize) -> u8
+    ensures { λ r. ⌜ r ≡ secondOf (getD (cellsOf (now (cells .entry))) o Empty) ⌝ }
 {
-    (word_at(words, tags, o, RECORD) / 16777216 % 256) as u8
+    (word_at(cells, o, RECORD) / 16777216 % 256) as u8
 }
 
-pub fn third_at(words: &[u64], tags: &[u8], o: usize) -> u8
-    ensures { λ r. ⌜ r ≡ thirdOf (getD (cellsOf (now (tags .entry)) (now (words .entry))) o Empty) ⌝ }
+pub fn third_at(cells: &[u64], o: usize) -> u8
+    ensures { λ r. ⌜ r ≡ thirdOf (getD (cellsOf (now (cells .entry))) o Empty) ⌝ }
 {
-    (word_at(words, tags, o, RECORD) / 65536 % 256) as u8
+    (word_at(cells, o, RECORD) / 65536 % 256) as u8
 }
 
 // Puts a tag and a word into cell o.
-pub fn put(words: &mut [u64], tags: &mut [u8], o: usize, tag: u8, w: u64)
-    ensures { λ _. ⌜ cellsOf (now (tags .exit)) (now (words .exit)) ≡ set (cellsOf (now (tags .entry)) (now (words .entry))) o (valueOf tag w) ⌝ }
+pub fn put(cells: &mut [u64], o: usize, tag: u64, w: u64)
+    ensures { λ _. ⌜ cellsOf (now (cells .exit)) ≡ set (cellsOf (now (cells .entry))) o (valueOf tag w) ⌝ }
 {
-    if o < words.len() {
-        if o < tags.len() {
-            words[o] = w;
-            tags[o] = tag;
-        }
+    if o < cells.len() / 2 {
+        let at = 2 * o;
+        cells[at] = tag;
+        cells[at + 1] = w;
     }
 }
 
 // Empties cell o: its word stays.
-pub fn clear(words: &[u64], tags: &mut [u8], o: usize)
-    ensures { λ _. ⌜ cellsOf (now (tags .exit)) (now (words .entry)) ≡ set (cellsOf (now (tags .entry)) (now (words .entry))) o Empty ⌝ }
+pub fn clear(cells: &mut [u64], o: usize)
+    ensures { λ _. ⌜ cellsOf (now (cells .exit)) ≡ set (cellsOf (now (cells .entry))) o Empty ⌝ }
 {
-    if o < words.len() {
-        if o < tags.len() {
-            tags[o] = EMPTY;
-        }
+    if o < cells.len() / 2 {
+        cells[2 * o] = EMPTY;
     }
 }
 
 // Puts what cell p holds into cell o.
-pub fn copy(words: &mut [u64], tags: &mut [u8], o: usize, p: usize)
-    ensures { λ _. ⌜ cellsOf (now (tags .exit)) (now (words .exit)) ≡ copied (cellsOf (now (tags .entry)) (now (words .entry))) o p ⌝ }
+pub fn copy(cells: &mut [u64], o: usize, p: usize)
+    ensures { λ _. ⌜ cellsOf (now (cells .exit)) ≡ copied (cellsOf (now (cells .entry))) o p ⌝ }
 {
-    if p < words.len() {
-        if p < tags.len() {
-            if o < words.len() {
-                if o < tags.len() {
-                    words[o] = words[p];
-                    tags[o] = tags[p];
-                }
-            }
-        }
+    if p < cells.len() / 2 {
+        let at = 2 * p;
+        let tag = cells[at];
+        let w = cells[at + 1];
+        put(cells, o, tag, w);
     }
 }
 
 // Puts what the k cells from `from` on hold into those from `to` on, the first first.
-pub fn move_cells(words: &mut [u64], tags: &mut [u8], to: u16, from: u16, k: u16)
-    ensures { λ _. ⌜ cellsOf (now (tags .exit)) (now (words .exit)) ≡ moved (cellsOf (now (tags .entry)) (now (words .entry))) to from k ⌝ }
+pub fn move_cells(cells: &mut [u64], to: u16, from: u16, k: u16)
+    ensures { λ _. ⌜ cellsOf (now (cells .exit)) ≡ moved (cellsOf (now (cells .entry))) to from k ⌝ }
 {
     let n = k as usize;
     let mut j: usize = 0;
     while j < n {
-        copy(words, tags, (to as usize) + j, (from as usize) + j);
+        copy(cells, (to as usize) + j, (from as usize) + j);
         j += 1;
     }
 }
 
 // Empties the k cells from `at` on.
-pub fn empty_cells(words: &[u64], tags: &mut [u8], at: u16, k: u16)
-    ensures { λ _. ⌜ cellsOf (now (tags .exit)) (now (words .entry)) ≡ emptied (cellsOf (now (tags .entry)) (now (words .entry))) at k ⌝ }
+pub fn empty_cells(cells: &mut [u64], at: u16, k: u16)
+    ensures { λ _. ⌜ cellsOf (now (cells .exit)) ≡ emptied (cellsOf (now (cells .entry))) at k ⌝ }
 {
     let n = k as usize;
     let mut j: usize = 0;
     while j < n {
-        clear(words, tags, (at as usize) + j);
+        clear(cells, (at as usize) + j);
         j += 1;
     }
 }

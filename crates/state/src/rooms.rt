@@ -6,7 +6,6 @@ ghost use Rattle.state.specs.Cells.{cellsOf};
 ghost use Rattle.state.specs.Layout.{roomCell};
 ghost use Rattle.state.specs.Rooms.{isLive, fieldCell, firstFree};
 ghost use Rattle.state.specs.declared.Operand.the-variants.{Empty};
-use crate::Operand;
 
 // A cell that is not there.
 pub const NO_CELL: u16 = 65535;
@@ -19,36 +18,34 @@ pub fn room_cell(m: u8) -> u16
 }
 
 // Whether record s is in room m.
-pub fn is_live(words: &[u64], tags: &[u8], s: u32, m: u8) -> bool
-    ensures { λ r. ⌜ r ≡ isLive (getD (cellsOf (now (tags .entry)) (now (words .entry))) (roomCell m) Empty) s ⌝ }
+pub fn is_live(cells: &[u64], s: u32, m: u8) -> bool
+    ensures { λ r. ⌜ r ≡ isLive (getD (cellsOf (now (cells .entry))) (roomCell m) Empty) s ⌝ }
 {
-    let head = crate::cell(words, tags, room_cell(m) as usize);
-    match head {
-        Operand::Empty => false,
-        Operand::Number(_) => false,
-        Operand::Record(serial, _, _) => serial == s,
-        Operand::Refer(_) => false,
+    let o = room_cell(m) as usize;
+    if crate::is_record(cells, o) {
+        return crate::first_at(cells, o) == s;
     }
+    false
 }
 
 // The cell of field j of room m, or none where the record has no such field.
-pub fn field_cell(words: &[u64], tags: &[u8], m: u8, j: u8) -> u16
-    ensures { λ r. ⌜ r ≡ fieldCell (cellsOf (now (tags .entry)) (now (words .entry))) m j ⌝ }
+pub fn field_cell(cells: &[u64], m: u8, j: u8) -> u16
+    ensures { λ r. ⌜ r ≡ fieldCell (cellsOf (now (cells .entry))) m j ⌝ }
 {
     let o = room_cell(m);
-    if j < crate::second_at(words, tags, o as usize) {
+    if j < crate::second_at(cells, o as usize) {
         return o + 1 + (j as u16);
     }
     NO_CELL
 }
 
 // The first room from room `from` on that is not in use, 128 where there is none.
-pub fn free_room(words: &[u64], tags: &[u8], from: u8) -> u8
-    ensures { λ r. ⌜ r ≡ firstFree (cellsOf (now (tags .entry)) (now (words .entry))) from (128 - from) ⌝ }
+pub fn free_room(cells: &[u64], from: u8) -> u8
+    ensures { λ r. ⌜ r ≡ firstFree (cellsOf (now (cells .entry))) from (128 - from) ⌝ }
 {
     let mut r = from;
     while r < 128 {
-        if !crate::is_record(words, tags, room_cell(r) as usize) {
+        if !crate::is_record(cells, room_cell(r) as usize) {
             return r;
         }
         r += 1;

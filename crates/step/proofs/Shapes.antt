@@ -10,7 +10,6 @@ use lib.Dec.{eqb, ltb, leb}
 use lib.ListN.{length, getD}
 use Rattle.arithmetic.specs.declared.Calculated.{Calculated}
 use Rattle.arithmetic.specs.declared.Calculated.the-variants.{Value, OutOfRange, Unknown}
-use Rattle.arithmetic.specs.Arithmetic.{calculation}
 use Rattle.rules.specs.Limits.{outOfRange, staleReference, keyTaken, noSuchKey, tooManyFrames, tooManyRecords, tooManyEntries}
 use Rattle.state.specs.Entries.{addedIn}
 use Rattle.state.specs.declared.Reference.{Reference}
@@ -18,15 +17,13 @@ use Rattle.state.specs.declared.Operand.{Operand}
 use Rattle.state.specs.declared.Operand.the-variants.{Empty, Number, Record, Refer}
 use Rattle.state.specs.declared.frames.State.{State}
 use Rattle.state.specs.Layout.{roomCell}
-use Rattle.state.specs.Coding.{secondOf}
+use Rattle.state.specs.Coding.{isNumber, numberOf, secondOf}
 use Rattle.state.specs.Frames.{pushed, dropped, goneTo, goneOn, stoppedWith, topAt, resumed, resumedAt, received, entered, enteredIn, suspendedIn}
 use Rattle.state.specs.Rooms.{isLive, fieldCell, firstFree}
-use Rattle.frame.specs.declared.operations.Numeral.{Numeral}
-use Rattle.frame.specs.declared.operations.Numeral.the-variants.{Is, None}
 use Rattle.references.specs.declared.targets.Target.{Target}
 use Rattle.references.specs.declared.targets.Target.the-variants.{Number as ToNumber, Record as ToRecord, Stale, Impossible}
 use Rattle.frame.specs.Turning.{Turning, after, done, broken, ends}
-use Rattle.frame.specs.Operations.{numeralOf, withNumber, closed, opOf}
+use Rattle.frame.specs.Operations.{closed, operated, opOf}
 use Rattle.frame.specs.Stack.{poppedBy}
 use Rattle.references.specs.Targets.{targetTop, readAt, readOf, writtenAt, writeOf, borrowedAs, borrowedIn, borrowFieldOf}
 use Rattle.records.specs.Packing.{packOf, packedState, packedIn, unpackOf, unpackedTop, unpackedFrom, unpackedAt}
@@ -78,9 +75,8 @@ module _ (cs : List Operand) (s : State) where
   either true a b = a
   either false a b = b
 
-  number : {r : Bool} → (x : Numeral) {k : ℕ → Turning} → ((n : ℕ) → Shape cs s r (k n)) → Shape cs s r (withNumber cs s x k)
-  number None h = stays broken refl
-  number (Is n) h = h n
+  number : {r : Bool} → (x : Operand) {t : Turning} → Shape cs s r t → Shape cs s r (cond (isNumber x) t (ends cs s broken))
+  number x h = either (isNumber x) h (stays broken refl)
 
   closes : {r : Bool} → (x : Calculated) → Shape cs s r (closed cs s x)
   closes (Value v) = calm refl refl refl refl
@@ -165,13 +161,13 @@ module _ (cs : List Operand) (s : State) where
       go true e = finishes (eqb-true (s .depth) 0 e)
       go false e = goes (record { runs-on = resumes .runs-on; depth-low = resumes .depth-low; entries-low = resumes .entries-low; rooms-low = resumes .rooms-low })
 
-  branches : {r : Bool} → (b : ℕ) (x : Numeral) → Shape cs s r (after (branchedBy s b x) cs)
-  branches b None = stays broken refl
-  branches b (Is n) = go (eqb n 0)
+  branches : {r : Bool} → (b : ℕ) (x : Operand) → Shape cs s r (after (branchedBy s b x) cs)
+  branches b x = go (isNumber x) (eqb (numberOf x) 0)
     where
-      go : {r : Bool} → (c : Bool) → Shape cs s r (after (cond c (goneOn (dropped s 1)) (goneTo (dropped s 1) b)) cs)
-      go true = calm refl refl refl refl
-      go false = calm refl refl refl refl
+      go : {r : Bool} → (n c : Bool) → Shape cs s r (after (cond n (cond c (goneOn (dropped s 1)) (goneTo (dropped s 1) b)) (stoppedWith s broken)) cs)
+      go true true = calm refl refl refl refl
+      go true false = calm refl refl refl refl
+      go false c = stays broken refl
 
   -- by opcode
   pub turn-shape : (b d kind fields parameters count results a : ℕ) → Shape cs s (eqb a 16) (getD (turns b d kind fields parameters count results cs s) a (ends cs s broken))
@@ -179,17 +175,17 @@ module _ (cs : List Operand) (s : State) where
   turn-shape b d kind fields parameters count results = each (λ (a : ℕ). Shape cs s (eqb a 16)) (turns b d kind fields parameters count results cs s) (ends cs s broken) (
       calm refl refl refl refl ▸ calm refl refl refl refl ▸ calm refl refl refl refl ▸ calm refl refl refl refl ▸ calm refl refl refl refl ▸ calm refl refl refl refl
       ▸ reads (targetTop cs s)
-      ▸ number (numeralOf (topAt cs s 1)) (λ n. writes (targetTop cs s) n)
+      ▸ number (topAt cs s 1) (writes (targetTop cs s) (numberOf (topAt cs s 1)))
       ▸ borrows (targetTop cs s) (b / 8 % 256) (b % 8)
       ▸ packs (fields % 256) (b % 256) (firstFree cs (s .free) (128 - s .free))
       ▸ unpacks (topAt cs s 0)
-      ▸ number (numeralOf (topAt cs s 0)) (λ n. publishes (b % 256) n (topAt cs s 1))
-      ▸ number (numeralOf (topAt cs s 0)) (λ n. withdraws (b % 256) (found cs s (b % 256) n))
-      ▸ number (numeralOf (topAt cs s 0)) (λ n. either (leb (s .entries) (found cs s (b % 256) n)) (stays noSuchKey refl) (calm refl refl refl refl))
-      ▸ number (numeralOf (topAt cs s 0)) (λ n. calm refl refl refl refl)
+      ▸ number (topAt cs s 0) (publishes (b % 256) (numberOf (topAt cs s 0)) (topAt cs s 1))
+      ▸ number (topAt cs s 0) (withdraws (b % 256) (found cs s (b % 256) (numberOf (topAt cs s 0))))
+      ▸ number (topAt cs s 0) (either (leb (s .entries) (found cs s (b % 256) (numberOf (topAt cs s 0)))) (stays noSuchKey refl) (calm refl refl refl refl))
+      ▸ number (topAt cs s 0) (calm refl refl refl refl)
       ▸ calls b (parameters % 256) (within count)
       ▸ returns results
       ▸ calm refl refl refl refl
-      ▸ branches b (numeralOf (topAt cs s 0))
-      ▸ number (numeralOf (topAt cs s 1)) (λ x. number (numeralOf (topAt cs s 0)) λ y. closes (calculation b x y))
+      ▸ branches b (topAt cs s 0)
+      ▸ closes (operated b (topAt cs s 1) (topAt cs s 0))
       ▸ tt) (λ a. stays broken refl)

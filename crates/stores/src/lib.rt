@@ -30,22 +30,15 @@ fn put_type(text: &mut [u8], at: usize, kind: u64) -> usize
 }
 
 // Puts what a field holds: a number, or a nested record, its fields down to `depth` levels.
-fn put_operand(
-    text: &mut [u8],
-    at: usize,
-    words: &[u64],
-    tags: &[u8],
-    depth: usize,
-    x: Operand,
-) -> usize
-    ensures { λ r. ⌜ (now (text .exit) ≡ (placed (now (text .entry)) at (mvalues (mfields depth (roomsIn (cellsOf (now (tags .entry)) (now (words .entry))))) (x ∷ []))) .buffer) × (r ≡ (placed (now (text .entry)) at (mvalues (mfields depth (roomsIn (cellsOf (now (tags .entry)) (now (words .entry))))) (x ∷ []))) .end) ⌝ }
+fn put_operand(text: &mut [u8], at: usize, cells: &[u64], depth: usize, x: Operand) -> usize
+    ensures { λ r. ⌜ (now (text .exit) ≡ (placed (now (text .entry)) at (mvalues (mfields depth (roomsIn (cellsOf (now (cells .entry))))) (x ∷ []))) .buffer) × (r ≡ (placed (now (text .entry)) at (mvalues (mfields depth (roomsIn (cellsOf (now (cells .entry))))) (x ∷ []))) .end) ⌝ }
 {
     match x {
         Operand::Empty => at,
         Operand::Number(n) => put_number(text, at, n),
         Operand::Record(serial, room, kind) => {
             let mut end = put_type(text, at, kind as u64);
-            end = put_fields(text, end, words, tags, depth, serial, room);
+            end = put_fields(text, end, cells, depth, serial, room);
             text::put_byte(text, end, b')')
         }
         Operand::Refer(_) => at,
@@ -56,13 +49,12 @@ fn put_operand(
 fn put_fields(
     text: &mut [u8],
     at: usize,
-    words: &[u64],
-    tags: &[u8],
+    cells: &[u64],
     depth: usize,
     serial: u32,
     room: u8,
 ) -> usize
-    ensures { λ r. ⌜ (now (text .exit) ≡ (placed (now (text .entry)) at (mfields depth (roomsIn (cellsOf (now (tags .entry)) (now (words .entry)))) serial room)) .buffer) × (r ≡ (placed (now (text .entry)) at (mfields depth (roomsIn (cellsOf (now (tags .entry)) (now (words .entry)))) serial room)) .end) ⌝ }
+    ensures { λ r. ⌜ (now (text .exit) ≡ (placed (now (text .entry)) at (mfields depth (roomsIn (cellsOf (now (cells .entry)))) serial room)) .buffer) × (r ≡ (placed (now (text .entry)) at (mfields depth (roomsIn (cellsOf (now (cells .entry)))) serial room)) .end) ⌝ }
 {
     if depth == 0 {
         return at;
@@ -70,56 +62,48 @@ fn put_fields(
     if 128 <= room {
         return at;
     }
-    if !rooms::is_live(words, tags, serial, room) {
+    if !rooms::is_live(cells, serial, room) {
         return at;
     }
     let o = rooms::room_cell(room) as usize;
-    let n = state::second_at(words, tags, o) as usize;
+    let n = state::second_at(cells, o) as usize;
     let mut end = at;
     let mut j: usize = 0;
     while j < n {
-        end = put_operand(
-            text,
-            end,
-            words,
-            tags,
-            depth - 1,
-            state::cell(words, tags, o + 1 + j),
-        );
+        end = put_operand(text, end, cells, depth - 1, state::cell(cells, o + 1 + j));
         j += 1;
     }
     end
 }
 
 // Puts the line of entry i.
-fn put_entry(text: &mut [u8], at: usize, words: &[u64], tags: &[u8], i: u8) -> usize
-    ensures { λ r. ⌜ (now (text .exit) ≡ (placed (now (text .entry)) at (mentryLine (roomsIn (cellsOf (now (tags .entry)) (now (words .entry)))) (entryIn (cellsOf (now (tags .entry)) (now (words .entry))) i))) .buffer) × (r ≡ (placed (now (text .entry)) at (mentryLine (roomsIn (cellsOf (now (tags .entry)) (now (words .entry)))) (entryIn (cellsOf (now (tags .entry)) (now (words .entry))) i))) .end) ⌝ }
+fn put_entry(text: &mut [u8], at: usize, cells: &[u64], i: u8) -> usize
+    ensures { λ r. ⌜ (now (text .exit) ≡ (placed (now (text .entry)) at (mentryLine (roomsIn (cellsOf (now (cells .entry)))) (entryIn (cellsOf (now (cells .entry))) i))) .buffer) × (r ≡ (placed (now (text .entry)) at (mentryLine (roomsIn (cellsOf (now (cells .entry)))) (entryIn (cellsOf (now (cells .entry))) i))) .end) ⌝ }
 {
     let o = entries::entry_cell(i) as usize;
     let mut end = text::put_word(text, at, b"store");
-    end = put_number(text, end, state::third_at(words, tags, o + 1) as u64);
-    end = put_number(text, end, state::number_at(words, tags, o));
+    end = put_number(text, end, state::third_at(cells, o + 1) as u64);
+    end = put_number(text, end, state::number_at(cells, o));
     end = put_fields(
         text,
         end,
-        words,
-        tags,
+        cells,
         format::MAX_TYPES,
-        state::first_at(words, tags, o + 1),
-        state::second_at(words, tags, o + 1),
+        state::first_at(cells, o + 1),
+        state::second_at(cells, o + 1),
     );
     text::put_byte(text, end, b'\n')
 }
 
 // Puts the lines of the first `count` entries, the newest, which is the last, first.
-pub fn put_entries(text: &mut [u8], at: usize, words: &[u64], tags: &[u8], count: u8) -> usize
-    ensures { λ r. ⌜ (now (text .exit) ≡ (placed (now (text .entry)) at (mentryLines (roomsIn (cellsOf (now (tags .entry)) (now (words .entry)))) (entriesIn (cellsOf (now (tags .entry)) (now (words .entry))) count))) .buffer) × (r ≡ (placed (now (text .entry)) at (mentryLines (roomsIn (cellsOf (now (tags .entry)) (now (words .entry)))) (entriesIn (cellsOf (now (tags .entry)) (now (words .entry))) count))) .end) ⌝ }
+pub fn put_entries(text: &mut [u8], at: usize, cells: &[u64], count: u8) -> usize
+    ensures { λ r. ⌜ (now (text .exit) ≡ (placed (now (text .entry)) at (mentryLines (roomsIn (cellsOf (now (cells .entry)))) (entriesIn (cellsOf (now (cells .entry))) count))) .buffer) × (r ≡ (placed (now (text .entry)) at (mentryLines (roomsIn (cellsOf (now (cells .entry)))) (entriesIn (cellsOf (now (cells .entry))) count))) .end) ⌝ }
 {
     let mut end = at;
     let mut i = count;
     while 0 < i {
         i -= 1;
-        end = put_entry(text, end, words, tags, i);
+        end = put_entry(text, end, cells, i);
     }
     end
 }

@@ -1,23 +1,16 @@
-use mathlib.Core.Logic.{inl, inr}
 use Rattle.interpreter.proofs.Keeping.{keeps, keeps-none, keeps-none-there}
 use borrow.Author.Needs.{needs}
 use Rattle.interpreter.proofs.keep.Statement.{statement}
 use Rattle.interpreter.proofs.keep.Tie as tie
 
 returns : tie.Need-returns
-returns c = keeps-none-there _ _ _ _ _ _ (inr (search needs))
+returns c = keeps-none-there _ _ _ _ (search needs)
 
 returns-2 : tie.Need-returns-2
-returns-2 c = keeps-none-there _ _ _ _ _ _ (inl (search needs))
+returns-2 c = keeps-none _ _ _ _ (search needs)
 
 returns-3 : tie.Need-returns-3
-returns-3 c = keeps-none _ _ _ _ _ _ (inr (search needs))
-
-returns-4 : tie.Need-returns-4
-returns-4 c = keeps-none _ _ _ _ _ _ (inl (search needs))
-
-returns-5 : tie.Need-returns-5
-returns-5 c = keeps _ _ _ _ _ _ (search needs) (search needs) (search needs) (search needs) (c .before .before .before .before .before .before .copy-words .ensures) (c .before .before .copy-tags .ensures)
+returns-3 c = keeps _ _ _ _ (search needs) (search needs) (c .before .before .copy-numbers .ensures)
 
 pub keep-spec : {M : Type 1} → statement M
-keep-spec = tie.close (tie.spec (λ c. search needs) returns returns-2 returns-3 returns-4 (λ c κs. search needs) (λ c κs. search needs) (λ c. search needs) (λ c. search needs) returns-5)
+keep-spec = tie.close (tie.spec (λ c. search needs) (λ c. search needs) (λ c. search needs) returns (λ c. search needs) returns-2 (λ c κs. search needs) (λ c. search needs) returns-3)

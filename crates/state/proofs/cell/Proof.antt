@@ -1,4 +1,3 @@
-use mathlib.Core.Logic.{inl, inr}
 use mathlib.Core.Path.{_∙_, sym}
 use borrow.Author.Needs.{needs}
 use Rattle.state.proofs.Cells.{cells-at, read-out}
@@ -6,13 +5,10 @@ use Rattle.state.proofs.cell.Statement.{statement}
 use Rattle.state.proofs.cell.Tie as tie
 
 returns : tie.Need-returns
-returns c = c .value-of .ensures ∙ sym (cells-at _ _ _ (search needs) (search needs))
+returns c = c .value-of .ensures ∙ sym (cells-at _ _ (search needs))
 
 returns-2 : tie.Need-returns-2
-returns-2 c = read-out _ _ _ (inl (search needs))
-
-returns-3 : tie.Need-returns-3
-returns-3 c = read-out _ _ _ (inr (search needs))
+returns-2 c = read-out _ _ (search needs)
 
 pub cell-spec : {M : Type 1} → statement M
-cell-spec = tie.close (tie.spec (λ c. search needs) (λ c. search needs) (λ c. search needs) (λ c κs. search needs) returns returns-2 returns-3)
+cell-spec = tie.close (tie.spec (λ c. search needs) (λ c. search needs) (λ c. search needs) (λ c. search needs) (λ c. search needs) (λ c. search needs) (λ c κs. search needs) returns returns-2)

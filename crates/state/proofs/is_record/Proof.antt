@@ -1,18 +1,11 @@
+use mathlib.Core.Path.{sym}
 use borrow.Author.Needs.{needs}
+use Rattle.state.proofs.Cells.{record-told}
 use Rattle.state.proofs.is_record.Statement.{statement}
 use Rattle.state.proofs.is_record.Tie as tie
 
 returns : tie.Need-returns
-returns c = rw (← c .before .before .cell .ensures, c .enum-told .given .1)
-
-returns-2 : tie.Need-returns-2
-returns-2 c = rw (← c .before .before .cell .ensures, c .enum-told2 .given .1)
-
-returns-3 : tie.Need-returns-3
-returns-3 c = rw (← c .before .before .cell .ensures, c .enum-told3 .given .1)
-
-returns-4 : tie.Need-returns-4
-returns-4 c = rw (← c .before .before .cell .ensures, c .enum-told4 .given .1)
+returns c = rw (c .has-tag .ensures) (sym (record-told _ _))
 
 pub is-record-spec : {M : Type 1} → statement M
-is-record-spec = tie.close (tie.spec (λ c κs. search needs) (λ c. search needs) (λ c. search needs) (λ c. search needs) (λ c. search needs) returns returns-2 returns-3 returns-4)
+is-record-spec = tie.close (tie.spec (λ c κs. search needs) returns)

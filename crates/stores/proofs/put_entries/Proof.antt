@@ -15,20 +15,20 @@ use Rattle.stores.proofs.put_entries.Statement.{statement}
 use Rattle.stores.proofs.put_entries.Tie as tie
 
 -- the lines of the first i entries
-abbrev lines : List ℕ → List ℕ → ℕ → List ℕ
-lines tags words i = mentryLines (roomsIn (cellsOf tags words)) (entriesIn (cellsOf tags words) i)
+abbrev lines : List ℕ → ℕ → List ℕ
+lines cells i = mentryLines (roomsIn (cellsOf cells)) (entriesIn (cellsOf cells) i)
 
 abbrev Inv-loop : tie.InvT-loop
-Inv-loop text₀ at words tags count end₀ i₀ text end i = (length text ≡ length text₀) × (placed text₀ at (lines tags words count) ≡ placed text end (lines tags words i))
+Inv-loop text₀ at cells count end₀ i₀ text end i = (length text ≡ length text₀) × (placed text₀ at (lines cells count) ≡ placed text end (lines cells i))
 
 abbrev μ-loop : tie.MeasureT-loop
-μ-loop text₀ at words tags count end₀ i₀ text end i = i
+μ-loop text₀ at cells count end₀ i₀ text end i = i
 
 loop-again : tie.Need-loop-again Inv-loop μ-loop
 loop-again c =
     let l = c .before .before .before .before .before .loop in
     let q : l .i ≡ suc (l .i - 1) = omega arith in
-    let cs = cellsOf (c .before .before .before .before .before .before .before .before .before .args .tags .now) (c .before .before .before .before .before .before .before .before .before .args .words .now) in
+    let cs = cellsOf (c .before .before .before .before .before .before .before .before .args .cells .now) in
     let line : Puts (l .text) (l .end) (mentryLine (roomsIn cs) (entryIn cs (l .i - 1))) (c .before .before .put-entry .last .0) (c .before .before .put-entry .result) = c .before .before .put-entry .ensures in
     (search needs, l .inv .1 ∙ lines-more _ _ (l .i) (l .i - 1) _ _ q line)
 

@@ -7,7 +7,7 @@ returns : tie.Need-returns
 returns c = rw (le-leb _ _ (c .before .if1 .taken), c .stopped .ensures)
 
 returns-2 : tie.Need-returns-2
-returns-2 c = rw (lt-leb _ _ (c .before .before .before .before .before .before .before .before .before .before .before .before .before .before .before .if1 .left), ← c .before .before .before .before .before .before .before .before .before .before .before .before .before .before .entry-cell .ensures, ← c .before .before .before .before .before .before .before .before .before .before .before .first-at .ensures, ← c .before .before .before .before .before .before .before .before .second-at .ensures, ← c .before .before .before .before .before .before .before .whole-word .ensures) (c .before .before .before .before .settle .ensures)
+returns-2 c = rw (lt-leb _ _ (c .before .before .before .before .before .before .if1 .left), ← c .before .before .before .entry-word .ensures .1) (c .before .before .settle .ensures)
 
 pub borrow-entry-spec : {M : Type 1} → statement M
-borrow-entry-spec = tie.close (tie.spec (λ c κs. search needs) returns (λ c κs. search needs) (λ c. search needs) (λ c. search needs) (λ c κs. search needs) (λ c κs. search needs) (λ c κs. search needs) (λ c κs. search needs) (λ c. search needs) (λ c. search needs) returns-2)
+borrow-entry-spec = tie.close (tie.spec (λ c κs. search needs) returns (λ c κs. search needs) (λ c κs. search needs) (λ c. search needs) returns-2)

@@ -7,16 +7,10 @@ returns : tie.Need-returns
 returns c = rw (← c .before .is-live .ensures, not-true (c .before .is-live .result) (c .if1 .taken))
 
 returns-2 : tie.Need-returns-2
-returns-2 c = rw (← c .before .before .before .before .before .is-live .ensures, not-false (c .before .before .before .before .before .is-live .result) (c .before .before .before .before .if1 .left), ← c .before .before .before .field-cell .ensures, ← c .before .before .cell .ensures, c .enum-told .given .1)
+returns-2 c = rw (← c .before .before .before .before .is-live .ensures, not-false (c .before .before .before .before .is-live .result) (c .before .before .before .if1 .left), ← c .before .before .field-cell .ensures, ← c .before .is-number .ensures, c .if2 .taken)
 
 returns-3 : tie.Need-returns-3
-returns-3 c = rw (← c .before .before .before .before .before .is-live .ensures, not-false (c .before .before .before .before .before .is-live .result) (c .before .before .before .before .if1 .left), ← c .before .before .before .field-cell .ensures, ← c .before .before .cell .ensures, c .enum-told2 .given .1)
-
-returns-4 : tie.Need-returns-4
-returns-4 c = rw (← c .before .before .before .before .before .is-live .ensures, not-false (c .before .before .before .before .before .is-live .result) (c .before .before .before .before .if1 .left), ← c .before .before .before .field-cell .ensures, ← c .before .before .cell .ensures, c .enum-told3 .given .1)
-
-returns-5 : tie.Need-returns-5
-returns-5 c = rw (← c .before .before .before .before .before .is-live .ensures, not-false (c .before .before .before .before .before .is-live .result) (c .before .before .before .before .if1 .left), ← c .before .before .before .field-cell .ensures, ← c .before .before .cell .ensures, c .enum-told4 .given .1)
+returns-3 c = rw (← c .before .before .before .before .is-live .ensures, not-false (c .before .before .before .before .is-live .result) (c .before .before .before .if1 .left), ← c .before .before .field-cell .ensures, ← c .before .is-number .ensures, c .if2 .left)
 
 pub in-field-spec : {M : Type 1} → statement M
-in-field-spec = tie.close (tie.spec (λ c κs. search needs) returns (λ c κs. search needs) (λ c. search needs) (λ c κs. search needs) (λ c. search needs) (λ c. search needs) (λ c. search needs) (λ c. search needs) returns-2 returns-3 returns-4 returns-5)
+in-field-spec = tie.close (tie.spec (λ c κs. search needs) returns (λ c κs. search needs) (λ c. search needs) (λ c κs. search needs) returns-2 returns-3)

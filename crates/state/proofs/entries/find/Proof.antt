@@ -9,10 +9,10 @@ use Rattle.state.proofs.entries.find.Statement.{statement}
 use Rattle.state.proofs.entries.find.Tie as tie
 
 abbrev Inv-loop : tie.InvT-loop
-Inv-loop words tags n kind address i₀ i = (i ≤ n) × (lastUnder (cellsOf tags words) kind address n n ≡ lastUnder (cellsOf tags words) kind address n i)
+Inv-loop cells n kind address i₀ i = (i ≤ n) × (lastUnder (cellsOf cells) kind address n n ≡ lastUnder (cellsOf cells) kind address n i)
 
 abbrev μ-loop : tie.MeasureT-loop
-μ-loop words tags n kind address i₀ i = i
+μ-loop cells n kind address i₀ i = i
 
 loop-holds : tie.Need-loop-holds Inv-loop μ-loop
 loop-holds c = (omega arith, refl)

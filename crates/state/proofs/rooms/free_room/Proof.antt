@@ -10,10 +10,10 @@ use Rattle.state.proofs.rooms.free_room.Statement.{statement}
 use Rattle.state.proofs.rooms.free_room.Tie as tie
 
 abbrev Inv-loop : tie.InvT-loop
-Inv-loop words tags from r₀ r = firstFree (cellsOf tags words) from (128 - from) ≡ firstFree (cellsOf tags words) r (128 - r)
+Inv-loop cells from r₀ r = firstFree (cellsOf cells) from (128 - from) ≡ firstFree (cellsOf cells) r (128 - r)
 
 abbrev μ-loop : tie.MeasureT-loop
-μ-loop words tags from r₀ r = 128 - r
+μ-loop cells from r₀ r = 128 - r
 
 loop-holds : tie.Need-loop-holds Inv-loop μ-loop
 loop-holds c = refl
