@@ -93,6 +93,21 @@ module _ (f : Operand → ℕ) (g : ℕ → ℕ) (k : ℕ) (a : (t w : ℕ) → 
       go (yes h) = rw (lt-ltb o (length ns / 2) h, cells-at ns o h) (a _ _)
       go (no h) = rw (le-ltb o (length ns / 2) (omega arith), ← read-out ns o (omega arith)) b
 
+-- what holds of the tags 0 to 5 and of those above holds of all
+by-tag : (P : ℕ → Type 0) → P 0 → P 1 → P 2 → P 3 → P 4 → P 5 → ((t : ℕ) → 6 ≤ t → P t) → (t : ℕ) → P t
+by-tag P a b c d e f g zero = a
+by-tag P a b c d e f g (suc zero) = b
+by-tag P a b c d e f g (suc (suc zero)) = c
+by-tag P a b c d e f g (suc (suc (suc zero))) = d
+by-tag P a b c d e f g (suc (suc (suc (suc zero)))) = e
+by-tag P a b c d e f g (suc (suc (suc (suc (suc zero))))) = f
+by-tag P a b c d e f g (suc (suc (suc (suc (suc (suc t)))))) = g _ (omega arith)
+
+-- a tag above 5 stands for nothing
+above-five : (t w : ℕ) → 6 ≤ t → valueOf t w ≡ Empty
+unfolding valueOf values
+above-five t w h = List·getD-eq-default (values w) Empty h
+
 -- whether a number is in a cell, and whether a record is
 module _ (f : Operand → Bool) (k : ℕ) (a : (t w : ℕ) → f (valueOf t w) ≡ eqb t k) (b : f Empty ≡ false) (ns : List ℕ) (o : ℕ) where
   told-as : f (getD (cellsOf ns) o Empty) ≡ hasTag ns o k
@@ -104,57 +119,21 @@ module _ (f : Operand → Bool) (k : ℕ) (a : (t w : ℕ) → f (valueOf t w) �
 
 pub number-told : (ns : List ℕ) (o : ℕ) → isNumber (getD (cellsOf ns) o Empty) ≡ hasTag ns o 1
 unfolding valueOf values
-number-told = told-as isNumber 1 tag refl
-  where
-    tag : (t w : ℕ) → isNumber (valueOf t w) ≡ eqb t 1
-    tag zero w = refl
-    tag (suc zero) w = refl
-    tag (suc (suc zero)) w = refl
-    tag (suc (suc (suc zero))) w = refl
-    tag (suc (suc (suc (suc zero)))) w = refl
-    tag (suc (suc (suc (suc (suc zero))))) w = refl
-    tag (suc (suc (suc (suc (suc (suc t)))))) w = rw (ne-eqb (suc (suc (suc (suc (suc (suc t)))))) 1 (omega arith))
+number-told = told-as isNumber 1 (λ t w. by-tag (λ (t : ℕ). isNumber (valueOf t w) ≡ eqb t 1) refl refl refl refl refl refl (λ t h. rw (above-five t w h, ne-eqb t 1 (omega arith))) t) refl
 
 pub record-told : (ns : List ℕ) (o : ℕ) → isRecord (getD (cellsOf ns) o Empty) ≡ hasTag ns o 2
 unfolding valueOf values
-record-told = told-as isRecord 2 tag refl
-  where
-    tag : (t w : ℕ) → isRecord (valueOf t w) ≡ eqb t 2
-    tag zero w = refl
-    tag (suc zero) w = refl
-    tag (suc (suc zero)) w = refl
-    tag (suc (suc (suc zero))) w = refl
-    tag (suc (suc (suc (suc zero)))) w = refl
-    tag (suc (suc (suc (suc (suc zero))))) w = refl
-    tag (suc (suc (suc (suc (suc (suc t)))))) w = rw (ne-eqb (suc (suc (suc (suc (suc (suc t)))))) 2 (omega arith))
+record-told = told-as isRecord 2 (λ t w. by-tag (λ (t : ℕ). isRecord (valueOf t w) ≡ eqb t 2) refl refl refl refl refl refl (λ t h. rw (above-five t w h, ne-eqb t 2 (omega arith))) t) refl
 
 -- the number in a cell; the numbers of the record in it
 pub number-in : (ns : List ℕ) (o : ℕ) → numberOf (getD (cellsOf ns) o Empty) ≡ wordIn ns o 1
 unfolding valueOf values
-number-in = read-as numberOf (λ w. w) 1 tag refl
-  where
-    tag : (t w : ℕ) → numberOf (valueOf t w) ≡ cond (eqb t 1) w 0
-    tag zero w = refl
-    tag (suc zero) w = refl
-    tag (suc (suc zero)) w = refl
-    tag (suc (suc (suc zero))) w = refl
-    tag (suc (suc (suc (suc zero)))) w = refl
-    tag (suc (suc (suc (suc (suc zero))))) w = refl
-    tag (suc (suc (suc (suc (suc (suc t)))))) w = rw (ne-eqb (suc (suc (suc (suc (suc (suc t)))))) 1 (omega arith))
+number-in = read-as numberOf (λ w. w) 1 (λ t w. by-tag (λ (t : ℕ). numberOf (valueOf t w) ≡ cond (eqb t 1) w 0) refl refl refl refl refl refl (λ t h. rw (above-five t w h, ne-eqb t 1 (omega arith))) t) refl
 
-pub record-in : (f : Operand → ℕ) (g : ℕ → ℕ) → f Empty ≡ g 0 → ((n : ℕ) → f (Number n) ≡ g 0) → ((r : Reference) → f (Refer r) ≡ g 0)
+record-in : (f : Operand → ℕ) (g : ℕ → ℕ) → f Empty ≡ g 0 → ((n : ℕ) → f (Number n) ≡ g 0) → ((r : Reference) → f (Refer r) ≡ g 0)
     → ((w : ℕ) → f (valueOf 2 w) ≡ g w) → (ns : List ℕ) (o : ℕ) → f (getD (cellsOf ns) o Empty) ≡ g (wordIn ns o 2)
 unfolding valueOf values
-record-in f g e n r h = read-as f g 2 tag e
-  where
-    tag : (t w : ℕ) → f (valueOf t w) ≡ g (cond (eqb t 2) w 0)
-    tag zero w = e
-    tag (suc zero) w = n _
-    tag (suc (suc zero)) w = h w
-    tag (suc (suc (suc zero))) w = r _
-    tag (suc (suc (suc (suc zero)))) w = r _
-    tag (suc (suc (suc (suc (suc zero))))) w = r _
-    tag (suc (suc (suc (suc (suc (suc t)))))) w = rw (ne-eqb (suc (suc (suc (suc (suc (suc t)))))) 2 (omega arith)) e
+record-in f g e n r h = read-as f g 2 (λ t w. by-tag (λ (t : ℕ). f (valueOf t w) ≡ g (cond (eqb t 2) w 0)) e (n _) (h w) (r _) (r _) (r _) (λ t l. rw (above-five t w l, ne-eqb t 2 (omega arith)) e) t) e
 
 pub first-in : (ns : List ℕ) (o : ℕ) → firstOf (getD (cellsOf ns) o Empty) ≡ wordIn ns o 2 / 4294967296
 unfolding valueOf values

@@ -1,31 +1,17 @@
--- Laws of the records in rooms, and of the searches for a room that is not in use and for an entry.
+-- Laws of the searches for a room that is not in use and for an entry.
 use Prim.Native.Nat.{ℕ, zero, suc, _+_, _-_, _<_, _≤_}
-use mathlib.Core.Path.{_≡_, refl, sym, _∙_}
-use mathlib.Core.Bool.{Bool, true, false, true≢false}
+use mathlib.Core.Path.{_≡_, refl}
+use mathlib.Core.Bool.{true, false}
 use mathlib.Core.List.{List}
 use native.Mathlib.Numerals.{add-one, sub-one}
 use native.Mathlib.Omega.{arith}
-use lib.Dec.{eqb}
 use lib.ListN.{getD}
 use Rattle.state.specs.declared.Operand.{Operand}
-use Rattle.state.specs.declared.Operand.the-variants.{Empty, Number, Record, Refer}
-use Rattle.state.specs.Coding.{isRecord, firstOf}
+use Rattle.state.specs.declared.Operand.the-variants.{Empty}
+use Rattle.state.specs.Coding.{isRecord}
 use Rattle.state.specs.Layout.{roomCell}
-use Rattle.state.specs.Rooms.{isLive, firstFree}
+use Rattle.state.specs.Rooms.{firstFree}
 use Rattle.state.specs.Entries.{isUnder, lastUnder}
-
--- whether record s is in a room with this head, by whether a record is
-pub live-is : (x : Operand) (s : ℕ) {t : Bool} → t ≡ isRecord x → t ≡ true → isLive x s ≡ eqb (firstOf x) s
-live-is Empty s e h = absurd (true≢false (sym h ∙ e))
-live-is (Number n) s e h = absurd (true≢false (sym h ∙ e))
-live-is (Record c k y) s e h = refl
-live-is (Refer r) s e h = absurd (true≢false (sym h ∙ e))
-
-pub live-not : (x : Operand) (s : ℕ) {t : Bool} → t ≡ isRecord x → t ≡ false → isLive x s ≡ false
-live-not Empty s e h = refl
-live-not (Number n) s e h = refl
-live-not (Record c k y) s e h = absurd (true≢false (sym e ∙ h))
-live-not (Refer r) s e h = refl
 
 -- room r is in use; it is not; there are no more
 module _ (cs : List Operand) (n r : ℕ) where

@@ -5,16 +5,13 @@ use mathlib.Core.List.{List}
 use lib.Dec.{eqb, ltb}
 use lib.ListN.{getD}
 use Rattle.state.specs.declared.Operand.{Operand}
-use Rattle.state.specs.declared.Operand.the-variants.{Empty, Number, Record, Refer}
-use Rattle.state.specs.Coding.{isRecord, secondOf}
+use Rattle.state.specs.declared.Operand.the-variants.{Empty}
+use Rattle.state.specs.Coding.{isRecord, firstOf, secondOf}
 use Rattle.state.specs.Layout.{roomCell, noCell}
 
 -- whether a room with this head has record s in it
 abbrev pub isLive : Operand → ℕ → Bool
-isLive Empty s = false
-isLive (Number n) s = false
-isLive (Record s′ k y) s = eqb s′ s
-isLive (Refer r) s = false
+isLive x s = cond (isRecord x) (eqb (firstOf x) s) false
 
 -- the cell of field j of room m
 abbrev pub fieldCell : List Operand → ℕ → ℕ → ℕ

@@ -23,7 +23,8 @@ pub fn is_live(cells: &[u64], s: u32, m: u8) -> bool
 {
     let o = room_cell(m) as usize;
     if crate::is_record(cells, o) {
-        return crate::first_at(cells, o) == s;
+        let serial = crate::first_at(cells, o);
+        return serial == s;
     }
     false
 }
