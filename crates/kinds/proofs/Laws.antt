@@ -1,12 +1,13 @@
 -- Laws of the kinds of the operands present: what the code's stack stands for, rows of kinds, and the effects by opcode.
 use Prim.Native.Nat.{ℕ, zero, suc, _+_, _-_, _<_, _≤_, min}
 use mathlib.Core.Path.{_≡_, refl, ap, sym, _∙_}
-use mathlib.Core.Bool.{false}
+use mathlib.Core.Bool.{Bool, false, cond, not, _&&_}
 use mathlib.Core.List.{List, [], _∷_}
 use native.Mathlib.Decide.{decLt}
 use native.Mathlib.Omega.{arith}
 use native.Mathlib.Numerals.{add-one}
-use borrow.Author.Tests.{eq-eqb, ne-eqb, lt-ltb, le-ltb}
+use borrow.Author.Tests.{ne-eqb, le-ltb}
+use lib.Dec.{eqb, ltb}
 use lib.ListN.{length, getD, set, List·getD-eq-default}
 use lib.Seq.{getD-set-same, getD-set-other}
 use Rattle.laws.specs.Lists.{none}
@@ -16,13 +17,14 @@ use Rattle.table.specs.declared.index.ProcedureEntry.{ProcedureEntry}
 use Rattle.table.specs.Format.{maxOperands}
 use Rattle.table.specs.Rows.{rowAt}
 use Rattle.program.specs.Program.{rowKind, kindsFrom, kindsOf}
-use Rattle.kinds.specs.Kinds.{Kinds, bad, kindsOr, failed, taken, pushed, topOf, topFirst}
+use Rattle.kinds.specs.Kinds.{Kinds, good, bad, kindsOr, failed, taken, pushed, topOf, faultAfter, topFirst}
 use Rattle.kinds.specs.Effects.{Effect, effects, effectOf, noEffect, applied, kindsAfter}
 
--- a stack with a fault stands for the fault
-pub faulty : (f : ℕ) → (f ≡ 0 → ⊥) → (ks : List ℕ) → kindsOr f ks ≡ bad f
-faulty zero n ks = absurd (n refl)
-faulty (suc f) n ks = refl
+suc-eqb : (n : ℕ) → eqb (suc n) 0 ≡ false
+suc-eqb n = ne-eqb (suc n) 0 (λ e. omega arith)
+
+suc-pred : (n : ℕ) → suc n - 1 ≡ n
+suc-pred n = omega arith
 
 length-top : (ks : List ℕ) (h : ℕ) → length (topFirst ks h) ≡ h
 unfolding topFirst
@@ -35,49 +37,39 @@ unfolding topFirst
 top-set ks zero j v l = refl
 top-set ks (suc h) j v l = rw (getD-set-other ks j h v 0 (λ e. omega arith), top-set ks h j v (omega arith))
 
-top-at : (ks : List ℕ) (h : ℕ) → (h ≡ 0 → ⊥) → topFirst ks h ≡ getD ks (h - 1) 0 ∷ topFirst ks (h - 1)
-unfolding topFirst
-top-at ks zero n = absurd (n refl)
-top-at ks (suc h) n = let e : suc h - 1 ≡ h = omega arith in rw e
-
-pub some-left : (ks : List ℕ) (h : ℕ) → (h ≡ 0 → ⊥) → none (topFirst ks h) ≡ false
-unfolding none
-some-left ks h n = rw (top-at ks h n)
-
--- a stack without fault
-module _ (ks : List ℕ) (h f : ℕ) (e : f ≡ 0) where
-  pub fail-sets : (g : ℕ) → kindsOr g (topFirst ks h) ≡ failed g (kindsOr f (topFirst ks h))
+-- what lent kinds and a stack of height h with fault f stand for, by the tests that the code makes
+module _ (ks : List ℕ) where
+  pub fail-is : (h f g : ℕ) → failed g (kindsOr f (topFirst ks h)) ≡ cond (eqb f 0) (kindsOr g (topFirst ks h)) (kindsOr f (topFirst ks h))
   unfolding failed
-  fail-sets g = rw e
+  fail-is h zero g = refl
+  fail-is h (suc f) g = rw suc-eqb
 
-  pub top-none : h ≡ 0 → 0 ≡ topOf (kindsOr f (topFirst ks h))
+  pub top-is : (h f : ℕ) → topOf (kindsOr f (topFirst ks h)) ≡ cond (eqb f 0) (cond (eqb h 0) 0 (getD ks (h - 1) 0)) 0
   unfolding topOf topFirst
-  top-none z = rw (e, z)
+  top-is zero zero = refl
+  top-is (suc h) zero = rw (suc-eqb, suc-pred)
+  top-is h (suc f) = rw suc-eqb
 
-  pub top-some : (h ≡ 0 → ⊥) → getD ks (h - 1) 0 ≡ topOf (kindsOr f (topFirst ks h))
-  unfolding topOf
-  top-some n = rw (e, top-at ks h n)
+  pub take-is : (h f k : ℕ) → taken k (kindsOr f (topFirst ks h)) ≡ cond (eqb f 0) (cond (eqb h 0) (bad 7) (cond (eqb (getD ks (h - 1) 0) k) (kindsOr f (topFirst ks (h - 1))) (bad 7))) (kindsOr f (topFirst ks h))
+  unfolding taken topFirst
+  take-is zero zero k = refl
+  take-is (suc h) zero k = rw (suc-eqb, suc-pred)
+  take-is h (suc f) k = rw suc-eqb
 
-  module _ (k : ℕ) where
-    pub take-none : h ≡ 0 → failed 7 (kindsOr f (topFirst ks h)) ≡ taken k (kindsOr f (topFirst ks h))
-    unfolding failed taken topFirst
-    take-none z = rw (e, z)
+  pub push-is : length ks ≡ maxOperands → (h f k : ℕ) → pushed k (kindsOr f (topFirst ks h)) ≡ cond (eqb f 0) (cond (ltb h maxOperands) (kindsOr f (topFirst (set ks h k) (h + 1))) (bad 8)) (kindsOr f (topFirst ks h))
+  unfolding pushed topFirst
+  push-is m h zero k = rw (length-top ks h) (go (decLt h maxOperands))
+    where
+      go : Dec (h < maxOperands) → cond (ltb h maxOperands) (good (k ∷ topFirst ks h)) (bad 8) ≡ cond (ltb h maxOperands) (good (topFirst (set ks h k) (h + 1))) (bad 8)
+      go (yes l) = rw (add-one, getD-set-same ks h k 0 (omega arith), top-set ks h h k (omega arith))
+      go (no l) = rw (le-ltb h maxOperands (omega arith))
+  push-is m h (suc f) k = rw suc-eqb
 
-    pub take-yes : (h ≡ 0 → ⊥) → getD ks (h - 1) 0 ≡ k → kindsOr f (topFirst ks (h - 1)) ≡ taken k (kindsOr f (topFirst ks h))
-    unfolding taken
-    take-yes n q = rw (e, top-at ks h n, eq-eqb _ _ q)
-
-    pub take-no : (h ≡ 0 → ⊥) → (getD ks (h - 1) 0 ≡ k → ⊥) → failed 7 (kindsOr f (topFirst ks h)) ≡ taken k (kindsOr f (topFirst ks h))
-    unfolding failed taken
-    take-no n q = rw (e, top-at ks h n, ne-eqb _ _ q)
-
-    pub push-full : maxOperands ≤ h → failed 8 (kindsOr f (topFirst ks h)) ≡ pushed k (kindsOr f (topFirst ks h))
-    unfolding failed pushed
-    push-full l = rw (e, length-top ks h, le-ltb h maxOperands l)
-
-    pub push-yes : h < maxOperands → h < length ks → kindsOr f (topFirst (set ks h k) (h + 1)) ≡ pushed k (kindsOr f (topFirst ks h))
-    unfolding pushed topFirst
-    push-yes l m = rw (e, add-one, getD-set-same ks h k 0 m, top-set ks h h k (omega arith), length-top ks h, lt-ltb h maxOperands l)
+  pub fault-is : (h f : ℕ) (last other : Bool) → faultAfter (kindsOr f (topFirst ks h)) last other ≡ cond (eqb f 0) (cond (last && not (eqb h 0)) 9 (cond other 10 0)) f
+  unfolding faultAfter topFirst none
+  fault-is zero zero last other = refl
+  fault-is (suc h) zero last other = rw suc-eqb
+  fault-is h (suc f) last other = rw suc-eqb
 
 -- the kinds that rows declare
 module _ (t : List ℕ) (from to : ℕ) where

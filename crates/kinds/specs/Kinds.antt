@@ -59,6 +59,6 @@ unfoldable pub topFirst : List ℕ → ℕ → List ℕ
 topFirst ks zero = []
 topFirst ks (suc h) = getD ks h 0 ∷ topFirst ks h
 
--- what a stack of the code stands for
-abbrev pub view : Stack → Kinds
-view s = kindsOr (s .fault) (topFirst (s .kinds) (s .height))
+-- what lent kinds and a stack of the code stand for
+abbrev pub view : List ℕ → Stack → Kinds
+view ks s = kindsOr (s .fault) (topFirst ks (s .height))

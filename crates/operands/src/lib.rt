@@ -162,6 +162,7 @@ fn judge_code(
     ensures { λ r. ⌜ r ≡ codeVerdict (codeFault (now (table .entry)) index own) (own .code) (rowCount (now (code .entry))) ⌝ }
 {
     let n = code.len() / format::ROW_BYTES;
+    let mut kinds = [0u32; format::MAX_OPERANDS];
     let mut stack = Stack::EMPTY;
     let mut i = 0;
     while i < n {
@@ -177,7 +178,7 @@ fn judge_code(
             callee = index.procedure_entries[called];
         }
         let last = is_last(code, marks, n, row.a, i);
-        stack = stack.step(table, row, own, named, callee);
+        stack = stack.step(&mut kinds, table, row, own, named, callee);
         let fault = stack.fault_after(last, is_foreign(table, row, own, named, callee));
         if fault != 0 {
             return Verdict::Refused(fault, (own.code as usize) + i);

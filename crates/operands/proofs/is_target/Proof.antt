@@ -17,15 +17,6 @@ Inv-loop code j n i₀ i = (i ≤ n) × (targetBelow code j i ≡ false)
 abbrev μ-loop : tie.MeasureT-loop
 μ-loop code j n i₀ i = n - i
 
-loop-holds : tie.Need-loop-holds Inv-loop μ-loop
-loop-holds c = (omega arith, target-none _ _)
-
-row-at-requires : tie.Need-row-at-requires Inv-loop μ-loop
-row-at-requires c κs = search needs
-
-jumps-to-requires : tie.Need-jumps-to-requires Inv-loop μ-loop
-jumps-to-requires c κs = search needs
-
 -- whether instruction i jumps to instruction j
 jump-is : (c : tie.After-jumps-to Inv-loop μ-loop) → jumpsTo (rowAt (c .before .before .before .before .before .args .code .now) (c .before .before .before .loop .i)) (c .before .before .before .before .before .args .j) ≡ c .jumps-to .result
 jump-is c = sym (c .jumps-to .ensures ∙ ap (λ (row : Row). jumpsTo row (c .before .before .before .before .before .args .j)) (c .before .row-at .ensures))
@@ -33,12 +24,6 @@ jump-is c = sym (c .jumps-to .ensures ∙ ap (λ (row : Row). jumpsTo row (c .be
 returns : tie.Need-returns Inv-loop μ-loop
 unfolding isTarget
 returns c = sym (target-found _ _ (c .before .before .before .before .loop .i) _ (c .before .before .before .loop-test .taken) (jump-is (c .before) ∙ c .if1 .taken))
-
-add-i : tie.Need-add-i Inv-loop μ-loop
-add-i c = omega arith
-
-loop-less : tie.Need-loop-less Inv-loop μ-loop
-loop-less c = omega arith
 
 loop-again : tie.Need-loop-again Inv-loop μ-loop
 loop-again c = (omega arith, target-next _ _ _ (c .before .before .before .before .loop .inv .1) (jump-is (c .before) ∙ c .if1 .left))
@@ -48,16 +33,4 @@ unfolding isTarget
 returns-2 c = let e : c .before .loop .i ≡ rowCount (c .before .before .before .args .code .now) = omega arith in sym (rw e at (c .before .loop .inv .1))
 
 pub is-target-spec : {M : Type 1} → statement M
-is-target-spec =
-    tie.close
-    (tie.spec
-    Inv-loop
-    μ-loop
-    loop-holds
-    row-at-requires
-    jumps-to-requires
-    returns
-    add-i
-    loop-less
-    loop-again
-    returns-2)
+is-target-spec = tie.close (tie.spec Inv-loop μ-loop (λ c. (omega arith, target-none _ _)) (λ c κs. search needs) (λ c κs. search needs) returns (λ c. omega arith) (λ c. omega arith) loop-again returns-2)

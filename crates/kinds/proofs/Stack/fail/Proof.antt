@@ -1,14 +1,7 @@
-use Rattle.kinds.specs.Kinds.{failed}
-use Rattle.kinds.proofs.Laws.{faulty, fail-sets}
+use Rattle.kinds.proofs.Laws.{fail-is}
+use Rattle.kinds.proofs.Tests.{tests}
 use Rattle.kinds.proofs.Stack.fail.Statement.{statement}
 use Rattle.kinds.proofs.Stack.fail.Tie as tie
 
-returns : tie.Need-returns
-returns c = fail-sets _ _ _ (c .if1 .taken) _
-
-returns-2 : tie.Need-returns-2
-unfolding failed
-returns-2 c = rw (faulty _ (c .if1 .left))
-
 pub fail-spec : {M : Type 1} → statement M
-fail-spec = tie.close (tie.spec returns returns-2)
+fail-spec = tie.close (tie.spec (λ c. search (tests, fail-is)) (λ c ks. rw fail-is (search tests)))

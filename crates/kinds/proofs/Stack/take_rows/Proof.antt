@@ -11,29 +11,14 @@ use Rattle.kinds.proofs.Stack.take_rows.Statement.{statement}
 use Rattle.kinds.proofs.Stack.take_rows.Tie as tie
 
 abbrev Inv-loop : tie.InvT-loop
-Inv-loop table from to stack₀ i₀ stack i = (i ≤ to) × (min from to ≤ i) × (view stack ≡ takenAll (kindsOf table i to) (view stack₀))
+Inv-loop kinds table from to stack₀ i₀ stack i = (i ≤ to) × (min from to ≤ i) × (view kinds stack ≡ takenAll (kindsOf table i to) (view kinds stack₀))
 
 abbrev μ-loop : tie.MeasureT-loop
-μ-loop table from to stack₀ i₀ stack i = i
+μ-loop kinds table from to stack₀ i₀ stack i = i
 
 loop-holds : tie.Need-loop-holds Inv-loop μ-loop
 unfolding takenAll
 loop-holds c = (omega arith, omega arith, rw (kinds-none _ _ _ (le-refl (c .before .args .to))))
-
-sub-i : tie.Need-sub-i Inv-loop μ-loop
-sub-i c = omega arith
-
-row-at-requires : tie.Need-row-at-requires Inv-loop μ-loop
-row-at-requires c κs = search needs
-
-row-kind-requires : tie.Need-row-kind-requires Inv-loop μ-loop
-row-kind-requires c κs = search needs
-
-take-requires : tie.Need-take-requires Inv-loop μ-loop
-take-requires c κs = search needs
-
-loop-less : tie.Need-loop-less Inv-loop μ-loop
-loop-less c = omega arith
 
 loop-again : tie.Need-loop-again Inv-loop μ-loop
 unfolding takenAll
@@ -46,16 +31,4 @@ returns : tie.Need-returns Inv-loop μ-loop
 returns c = c .before .loop .inv .2 ∙ rw (kinds-whole _ _ _ _ (c .loop-test .left) (c .before .loop .inv .0) (c .before .loop .inv .1))
 
 pub take-rows-spec : {M : Type 1} → statement M
-take-rows-spec =
-    tie.close
-    (tie.spec
-    Inv-loop
-    μ-loop
-    loop-holds
-    sub-i
-    row-at-requires
-    row-kind-requires
-    take-requires
-    loop-less
-    loop-again
-    returns)
+take-rows-spec = tie.close (tie.spec Inv-loop μ-loop loop-holds (λ c. omega arith) (λ c κs. search needs) (λ c κs. search needs) (λ c κs. search needs) (λ c. omega arith) loop-again returns)
