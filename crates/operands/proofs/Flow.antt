@@ -9,7 +9,7 @@ use native.Mathlib.Decide.{ℕ-discrete}
 use native.Mathlib.Numerals.{add-one}
 use native.Mathlib.Omega.{arith}
 use borrow.Author.Tests.{ltb-true, le-leb, eqb-true, eq-eqb, ne-eqb, not-false}
-use lib.Dec.{eqb, ltb, leb}
+use lib.Dec.{eqb, ltb}
 use lib.ListN.{length}
 use Rattle.laws.specs.Lists.{none}
 use Rattle.table.specs.declared.Verdict.the-variants.{Accepted}
@@ -21,7 +21,7 @@ use Rattle.program.specs.Program.{codeOf, procedureIn, isTarget}
 use Rattle.program.proofs.Passes.{unfaulted, pass-fine}
 use Rattle.kinds.specs.Kinds.{Kinds, good, bad, failed, taken, pushed, takenAll, pushedAll, topOf, faultAfter}
 use Rattle.kinds.specs.Effects.{Effect, applied, kindsAfter}
-use Rattle.operands.specs.Operands.{namedType, lastOfBlock, foreign, after, kindsBefore, codeFault, operandsWith}
+use Rattle.operands.specs.Operands.{namedType, lastOfBlock, foreignType, foreign, after, kindsBefore, codeFault, operandsWith}
 use Rattle.operands.specs.Flow.{onto, effectIn, Flow}
 
 -- kinds as they come about: at most 16 operands, or a fault that is not 0
@@ -163,7 +163,7 @@ flow-here t ix p i e =
     let last = lastOfBlock (codeOf t p) i in
     let a = unfaulted-good (after t ix p i s) last (foreign t p named callee row) (after-sound t ix p i s (before-sound t ix p i)) e in
     let b = applied-good (effectIn t ix p (topOf s) i) s (a .0) (a .1) in
-    let f = neither (leb opBorrowFld (row .a) && leb (row .a) opExists && not (eqb (named .owner) (p .owner))) _ .0 (a .4) in
+    let f = neither (foreignType (row .a) named p) _ .0 (a .4) in
     record {
       top = topOf s;
       rest = b .0;

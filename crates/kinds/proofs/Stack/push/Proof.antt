@@ -1,3 +1,5 @@
+use native.Mathlib.Omega.{arith}
+use borrow.Author.Tests.{eq-eqb, le-ltb}
 use Rattle.kinds.proofs.Laws.{push-is}
 use Rattle.kinds.proofs.Tests.{tests}
 use borrow.Author.Needs.{needs}
@@ -5,4 +7,4 @@ use Rattle.kinds.proofs.Stack.push.Statement.{statement}
 use Rattle.kinds.proofs.Stack.push.Tie as tie
 
 pub push-spec : {M : Type 1} → statement M
-push-spec = tie.close (tie.spec (λ c κs. search needs) (λ c. search (tests, push-is)) (λ c. search (tests, push-is)) (λ c. search needs) (λ c. search needs) (λ c. search needs) (λ c. search needs) (λ c. search (tests, push-is)))
+push-spec = tie.close (tie.spec (λ c κs. search needs) (λ c. search (tests, push-is)) (λ c. rw (push-is _ (c .before .before .before .sixteen .ensures), eq-eqb _ _ (c .before .if1 .left), le-ltb (c .before .before .before .before .before .args .self .height) 16 (omega arith))) (λ c. search needs) (λ c. search needs) (λ c. search needs) (λ c. search needs) (λ c. search (tests, push-is)))
