@@ -14,13 +14,13 @@ use Rattle.flow.specs.Paths.{Path, atFirst, onwards}
 
 -- Nodes.
 
-node-div : (w j x : ℕ) → x < w → (w * j + x) / w ≡ j
+pub node-div : (w j x : ℕ) → x < w → (w * j + x) / w ≡ j
 node-div w j x h = rw (mul-comm w j) (digits-div j h)
 
-node-mod : (w j x : ℕ) → x < w → (w * j + x) % w ≡ x
+pub node-mod : (w j x : ℕ) → x < w → (w * j + x) % w ≡ x
 node-mod w j x h = rw (mul-comm w j) (digits-mod j h)
 
-node-lt : (w j n x : ℕ) → j < n → x < w → w * j + x < w * n
+pub node-lt : (w j n x : ℕ) → j < n → x < w → w * j + x < w * n
 node-lt w j n x h g = rw (mul-comm w j, mul-comm w n) (digits-lt h g)
 
 node-first : (w x : ℕ) → w * 0 + x ≡ x
@@ -37,12 +37,12 @@ nodesAt-mem w j (here e) = here (ap (λ (y : ℕ). w * j + y) e)
 nodesAt-mem w j (there m) = there (nodesAt-mem w j m)
 
 -- the nodes of some instructions and some places are those of one of each
-nodesOf-mem : (w : ℕ) {j x : ℕ} {js xs : List ℕ} → Mem j js → Mem x xs → Mem (w * j + x) (nodesOf w js xs)
+pub nodesOf-mem : (w : ℕ) {j x : ℕ} {js xs : List ℕ} → Mem j js → Mem x xs → Mem (w * j + x) (nodesOf w js xs)
 unfolding nodesOf
 nodesOf-mem w {xs = xs} (here {x = i} {xs = js} e) m = rw e (Memᴰ·append-left (nodesOf w js xs) (nodesAt-mem w i m))
 nodesOf-mem w {xs = xs} (there {x = i} g) m = Memᴰ·append-right (nodesAt w i xs) (nodesOf-mem w g m)
 
-nodesOf-inv : (w : ℕ) (js xs : List ℕ) {v : ℕ} → Mem v (nodesOf w js xs) → (j x : ℕ) × Mem j js × Mem x xs × (v ≡ w * j + x)
+pub nodesOf-inv : (w : ℕ) (js xs : List ℕ) {v : ℕ} → Mem v (nodesOf w js xs) → (j x : ℕ) × Mem j js × Mem x xs × (v ≡ w * j + x)
 unfolding nodesOf
 nodesOf-inv w (j ∷ js) xs m =
     ⊎-elim

@@ -13,7 +13,7 @@ use Rattle.laws.proofs.First.{clean-if}
 use Rattle.reach.specs.Reach.{Mem, here, there, Inside, mark, push, sweep, iter}
 use Rattle.reach.specs.Search.{Searched, Visit, after, visitOf, visitAll}
 use Rattle.reach.proofs.Laws.{length-mark, length-iter}
-use Rattle.reach.proofs.Search.{visits-none, visits-more, search-from, expand, finish, tail-le, queued-below}
+use Rattle.reach.proofs.Search.{visits-none, visits-more, search-from, taken, finish, tail-le, queued-below}
 use Rattle.table.specs.declared.Row.{Row}
 use Rattle.table.specs.declared.Verdict.{Verdict}
 use Rattle.table.specs.declared.Verdict.the-variants.{Accepted}
@@ -25,6 +25,9 @@ use Rattle.program.specs.Limits.{overLimits, limited}
 use Rattle.program.proofs.Laws.{verdictOf, on-part}
 use Rattle.flow.specs.Steps.{Step, below, nextOf, nexts}
 use Rattle.flow.specs.Places.{nodesOf, succs, reached, within, markMoves, placeMoves, startPlaces, markNodes, operandMarked}
+use Rattle.flow.proofs.Paths.{node-div, node-mod}
+use Rattle.spread.specs.declared.Going.{Going}
+use Rattle.spread.specs.Moves.{GoesOn}
 use Rattle.spread.proofs.Laws.{graph-inside, next-below}
 use Rattle.locals.specs.Sets.{noLocals, contains}
 use Rattle.locals.specs.Locals.{parameterCount}
@@ -81,23 +84,6 @@ start-below given (suc l) v m = go (given l) m (start-below given l v)
     go true (there k) ih = omega (arith, ih k)
     go false k ih = omega (arith, ih k)
 
--- the nodes that go on from a node, with what the code reads of it
-pub nodes-after :
-    (code : List ℕ) (shape : Shape) (u : ℕ) {row : Row} {ys : List ℕ}
-    → row ≡ rowAt code (u / 33)
-    → ys ≡ within (markMoves (viewStep shape) (u % 33))
-    → nodesOf 33 (below (rowCount code) (nextOf row (u / 33))) ys ≡ succs 33 (nexts code) (λ (i x : ℕ). within (markMoves (viewStep shape) x)) u
-unfolding succs nexts
-nodes-after code shape u e q = rw (q, e)
-
-pub visits-after :
-    (code : List ℕ) (shapes : Shapes) (shape : Shape) (u : ℕ) (y : Visit) {x : Visit}
-    → shape ≡ getD (shapes .at) (u / 33) noShape
-    → x ≡ visitAll y (succs 33 (nexts code) (λ (i x : ℕ). within (markMoves (viewStep shape) x)) u)
-    → x ≡ visitAll y (succs 33 (nexts code) (placeMoves (stepsOf shapes)) u)
-unfolding succs placeMoves stepsOf
-visits-after code shapes shape u y e h = rw (← e) h
-
 -- The search for where marks come to in the code, whose instructions are seen as these steps.
 module _ (code : List ℕ) (step : ℕ → Step) (given : ℕ → Bool) (params : ℕ) where
   -- the graph of the nodes, and the set of those where walks start
@@ -107,15 +93,20 @@ module _ (code : List ℕ) (step : ℕ → Step) (given : ℕ → Bool) (params 
   abbrev first : List Bool
   first = mark (replicate (33 * rowCount code) false) (startPlaces given params)
 
-  -- where a search stands
-  abbrev pub Spreading : List Bool → List ℕ → ℕ → ℕ → Type 0
-  Spreading seen queue head tail = Searched graph first seen queue head tail
+  -- where a search stands: it follows place x of instruction i, where it goes on
+  abbrev pub Spreading : List Bool → List ℕ → ℕ → ℕ → ℕ → ℕ → Bool → Type 0
+  Spreading seen queue head tail i x going = Searched graph first seen queue head tail (cond going (33 * i + x) (length first))
 
   length-first : length first ≡ 33 * rowCount code
   length-first = length-mark (startPlaces given params) (replicate (33 * rowCount code) false) ∙ length-replicate (33 * rowCount code) false
 
   inside : Inside graph (length first)
   inside = rw length-first (graph-inside 33 (nexts code) (placeMoves step) (rowCount code) (omega arith) (λ i x y h m. moves-below step i x y m) (next-below code))
+
+  -- the nodes that go on from a node
+  nodes-after : (i x : ℕ) → x < 33 → graph (33 * i + x) ≡ nodesOf 33 (below (rowCount code) (nextOf (rowAt code i) i)) (within (markMoves (step i) x))
+  unfolding succs nexts placeMoves
+  nodes-after i x h = rw (node-div 33 i x h, node-mod 33 i x h)
 
   pub marks-start :
       (queue : List ℕ) (seen : List Bool) {x : Visit}
@@ -125,23 +116,50 @@ module _ (code : List ℕ) (step : ℕ → Step) (given : ℕ → Bool) (params 
       → 8448 ≤ length queue
       → seen ≡ replicate (33 * rowCount code) false
       → x ≡ visitAll (after seen queue 0) (startPlaces given params)
-      → Spreading (x .visited) (x .queue) 0 (x .tail)
+      → Spreading (x .visited) (x .queue) 0 (x .tail) 0 0 false
   marks-start queue seen some few fewer room e h =
-      search-from graph (33 * rowCount code) queue (startPlaces given params) (omega arith) (omega arith) (λ v m. omega (arith, start-below given params v m)) (rw e at h)
+      rw length-first (search-from graph (33 * rowCount code) queue (startPlaces given params) (omega arith) (omega arith) (λ v m. omega (arith, start-below given params v m)) (rw e at h))
 
-  module _ {seen : List Bool} {queue : List ℕ} {head tail : ℕ} (state : Spreading seen queue head tail) where
+  module _ {seen : List Bool} {queue : List ℕ} {head tail : ℕ} (i x : ℕ) (going : Bool) (state : Spreading seen queue head tail i x going) where
+    -- the search goes on from the node that is followed, or follows none
+    pub marks-on :
+        (s : Step) {more : List Bool} {longer : List ℕ} {r : Going}
+        → going ≡ true
+        → rowCount code ≤ 256
+        → i < rowCount code
+        → x < 33
+        → s ≡ step i
+        → GoesOn 33 (rowCount code) (rowAt code i) i (within (markMoves s x)) seen queue tail more longer r
+        → Spreading more longer head (r .tail) (r .at) (r .place) (r .going)
+    marks-on s e few h k q on =
+        on .search graph first head (33 * i + x) (nodes-after i x k ∙ rw q) inside length-first (omega (arith, length-first)) (omega (arith, length-first)) (rw e at state)
+
+    pub marks-rest : going ≡ false → Spreading seen queue head tail 0 0 false
+    marks-rest e = rw e at state
+
+  module _ {seen : List Bool} {queue : List ℕ} {head tail : ℕ} (state : Spreading seen queue head tail 0 0 false) where
     pub marks-tail : tail ≤ 33 * rowCount code
     marks-tail = omega (arith, length-first, tail-le (state .visits))
 
     pub marks-queued : head < tail → getD queue head 0 < 33 * rowCount code
     marks-queued h = omega (arith, length-first, queued-below (state .visits) head h)
 
-    pub marks-next : {x : Visit} → rowCount code ≤ 256 → head < tail → x ≡ visitAll (after seen queue tail) (graph (getD queue head 0)) → Spreading (x .visited) (x .queue) (head + 1) (x .tail)
-    marks-next few h = expand state inside (omega (arith, length-first)) h
+    pub marks-next : head < tail → Spreading seen queue (head + 1) tail (getD queue head 0 / 33) (getD queue head 0 % 33) true
+    marks-next h = let z : 33 * (getD queue head 0 / 33) + getD queue head 0 % 33 ≡ getD queue head 0 = omega arith in rw z (taken state (omega arith) h)
 
     pub marks-found : tail ≤ head → seen ≡ markNodes (nexts code) step given params (rowCount code)
     unfolding markNodes reached
-    marks-found h = rw length-first at (finish state (omega (arith, state .ahead)))
+    marks-found h = rw length-first at (finish state (omega arith) h)
+
+-- what a walk sees of an instruction, from what the code has of it
+pub steps-at : (shapes : Shapes) (i : ℕ) {shape : Shape} → shape ≡ getD (shapes .at) i noShape → viewStep shape ≡ stepsOf shapes i
+unfolding stepsOf
+steps-at shapes i e = ap viewStep e
+
+-- each time round a node is entered, or the search stops to follow one
+pub count-less : (was going : Bool) {n a b : ℕ} → was ≡ true → a ≤ b → (going ≡ true → a < b) → b ≤ n → (n - b) + cond going 1 0 < (n - a) + cond was 1 0
+count-less was true e h k l = let z = k refl in rw e (omega arith)
+count-less was false e h k l = rw e (omega arith)
 
 -- Searches in graphs with the same successors of the nodes.
 

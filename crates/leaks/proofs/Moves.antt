@@ -23,7 +23,7 @@ use Rattle.steps.specs.Steps.{viewStep}
 use Rattle.leaks.specs.Unmarked.{makesNoMark}
 
 -- what is within is below 33
-within-below : (xs : List ℕ) (y : ℕ) → Mem y (within xs) → y < 33
+pub within-below : (xs : List ℕ) (y : ℕ) → Mem y (within xs) → y < 33
 unfolding within
 within-below (x ∷ xs) y m = go (ltb x 33) refl (within-below xs y) m
   where
@@ -144,7 +144,7 @@ module _ (s : Shape) where
         pub fresh-added : {ys : List ℕ} → r < 4 → place < 33 → ys ≡ added xs place → Placed ys (r + 1)
         unfolding freshPlaces within added
         fresh-added h l e =
-            let full : ltb (length xs) 8 ≡ true = lt-ltb (length xs) 8 (omega arith) in
+            let full : ltb (length xs) 9 ≡ true = lt-ltb (length xs) 9 (omega arith) in
             rw (e, full) (
               before .0 ∙ rw (next r there, marked, above, lt-ltb place 33 l) (sym (append-assoc xs (place ∷ []) _)),
               rw length-append (omega arith),

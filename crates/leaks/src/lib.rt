@@ -10,14 +10,15 @@ ghost use Rattle.table.specs.Rows.{rowAt, rowCount};
 ghost use Rattle.program.specs.Program.{codeOf, codeVerdict};
 ghost use Rattle.program.specs.Limits.{limited};
 ghost use Rattle.flow.specs.Steps.{nexts};
-ghost use Rattle.flow.specs.Places.{markPlaces, succs, markMoves, within, markNodes, startPlaces};
-ghost use Rattle.spread.specs.Moves.{placesOf};
+ghost use Rattle.flow.specs.Places.{markPlaces, markMoves, within, markNodes, startPlaces};
+ghost use Rattle.spread.specs.Moves.{placesOf, GoesOn};
 ghost use Rattle.locals.specs.Sets.{contains};
 ghost use Rattle.steps.specs.Steps.{viewStep, stepAt, givenBy};
 ghost use Rattle.leaks.specs.Leaks.{trustedAt, someMarked, marksOf, leakFrom, leakIn, stepsOf};
 ghost use Rattle.leaks.specs.Within.{leaksWithin};
 ghost use Rattle.leaks.specs.Unmarked.{makesNoMark};
 use locals::LocalSet;
+use spread::Going;
 use spread::Moves;
 use steps::Shape;
 use table::Row;
@@ -107,23 +108,23 @@ fn mark_moves(s: Shape, x: usize) -> Moves
     operand_moves(s, x)
 }
 
-// Visits what follows from node u: place u % 33 at instruction u / 33.
+// Goes on with the search from place x of instruction i.
 fn expand(
     visited: &mut [bool],
     queue: &mut [u16],
     code: &[u8],
     tail: usize,
     shape: Shape,
-    u: usize,
-) -> usize
-    requires { ⌜ u < 8448 ⌝ }
-    ensures { λ r. ⌜ after (now (visited .exit)) (now (queue .exit)) r ≡ visitAll (after (now (visited .entry)) (now (queue .entry)) tail) (succs markPlaces (nexts (now (code .entry))) (λ (i x : ℕ). within (markMoves (viewStep shape) x)) u) ⌝ }
+    i: usize,
+    x: usize,
+) -> Going
+    requires { ⌜ (length (now visited) ≡ 33 * rowCount (now code)) × (rowCount (now code) ≤ 256) × (i < 256) × (x < 33) ⌝ }
+    ensures { λ r. ⌜ GoesOn markPlaces (rowCount (now (code .entry))) (rowAt (now (code .entry)) i) i (within (markMoves (viewStep shape) x)) (now (visited .entry)) (now (queue .entry)) tail (now (visited .exit)) (now (queue .exit)) r ⌝ }
 {
     let n = code.len() / format::ROW_BYTES;
-    let i = u / 33;
     let row = table::row_at(code, i);
-    let moves = mark_moves(shape, u % 33);
-    spread::go_on(visited, queue, tail, 33, n, row, i as u16, moves)
+    let moves = mark_moves(shape, x);
+    spread::go_on(visited, queue, tail, 33, n, row, i, moves)
 }
 
 // Visits the places where walks start: the parameters that are given as marked, the highest first, and the bare first instruction.
@@ -147,7 +148,7 @@ fn visit_start(
     reach::visit(visited, queue, tail, 0)
 }
 
-// Where marks come to: breadth first, each node once.
+// Where marks come to, each node visited once: a mark is followed while its nodes are new, and its other places and branches wait in the queue.
 fn spread_marks(
     visited: &mut [bool],
     queue: &mut [u16],
@@ -164,10 +165,18 @@ fn spread_marks(
     let mut head = 0;
     while head < tail {
         let u = queue[head] as usize;
-        let i = u / 33;
-        let shape = shapes.at[i];
-        tail = expand(visited, queue, code, tail, shape, u);
         head += 1;
+        let mut i = u / 33;
+        let mut x = u % 33;
+        let mut going = true;
+        while going {
+            let shape = shapes.at[i];
+            let on = expand(visited, queue, code, tail, shape, i, x);
+            tail = on.tail;
+            i = on.at;
+            x = on.place;
+            going = on.going;
+        }
     }
 }
 

@@ -12,9 +12,9 @@ use lib.Dec.{eqb, ltb}
 use lib.ListN.{length, getD, take, drop, replicate, length-replicate}
 use Rattle.laws.specs.First.{firstFault}
 use Rattle.reach.specs.Reach.{Mem, Inside, mark}
-use Rattle.reach.specs.Search.{Searched, Visit, after, visitOf, visitAll}
+use Rattle.reach.specs.Search.{Searched, entering}
 use Rattle.reach.proofs.Laws.{length-mark}
-use Rattle.reach.proofs.Search.{search-one, expand, finish, tail-le, queued-below}
+use Rattle.reach.proofs.Search.{search-one, taken, finish, tail-le, queued-below}
 use Rattle.table.specs.declared.Row.{Row}
 use Rattle.table.specs.declared.Verdict.{Verdict}
 use Rattle.table.specs.declared.Verdict.the-variants.{Accepted, Refused}
@@ -24,17 +24,21 @@ use Rattle.table.specs.Rows.{rowCount, rowAt}
 use Rattle.program.specs.Program.{codeOf, codeVerdict, localCount, localKind, isRecord}
 use Rattle.flow.specs.Steps.{below, nextOf, nexts}
 use Rattle.flow.specs.Places.{nodesOf as nodesFrom, succs, localMoves, statusAfter, startStatus, localNodes, reached, canBeEmpty, canBeFull}
+use Rattle.flow.proofs.Paths.{node-div, node-mod}
+use Rattle.spread.specs.declared.Moves.{Moves}
+use Rattle.spread.specs.declared.Going.{Going}
+use Rattle.spread.specs.Moves.{placesOf, added, GoesOn}
 use Rattle.spread.proofs.Laws.{graph-inside, next-below}
 use Rattle.locals.specs.declared.LocalSet.{LocalSet}
 use Rattle.locals.specs.Sets.{those}
-use Rattle.locals.specs.Locals.{bareStep, parameterCount, needsFull, nodesOf, leavesEmpty, leavesFull, leavesRecord, leavesSome, localFault}
+use Rattle.locals.specs.Locals.{rowStep, bareStep, parameterCount, needsFull, nodesOf, leavesEmpty, leavesFull, leavesRecord, leavesSome, localFault}
 use Rattle.locals.specs.Faults.{emptyAt, fullAt, recordAt, someRecord, faultFrom}
 use Rattle.locals.proofs.Sets.{contains-those}
 use Rattle.locals.proofs.Parts.{part-at}
 
 -- The search from the status that local l starts with.
 
-start-below : (params l : ℕ) → startStatus params l < 2
+pub start-below : (params l : ℕ) → startStatus params l < 2
 unfolding startStatus
 start-below params l = go (ltb l params)
   where
@@ -43,7 +47,8 @@ start-below params l = go (ltb l params)
     go false = omega arith
 
 -- the status after an instruction is one of the two
-pub after-below : (row : Row) (l x : ℕ) → x < 2 → cond (eqb (row .b) l) (cond (eqb (row .a) opMvLoc) 1 (cond (eqb (row .a) opStLoc) 0 x)) x < 2
+pub after-below : (row : Row) (l x : ℕ) → x < 2 → statusAfter (rowStep row) l x < 2
+unfolding statusAfter
 after-below row l x h = go (eqb (row .b) l) (eqb (row .a) opMvLoc) (eqb (row .a) opStLoc)
   where
     go : (a b c : Bool) → cond a (cond b 1 (cond c 0 x)) x < 2
@@ -51,16 +56,6 @@ after-below row l x h = go (eqb (row .b) l) (eqb (row .a) opMvLoc) (eqb (row .a)
     go true false true = omega arith
     go true false false = h
     go false b c = h
-
--- the nodes that go on from a node, with what the code reads and computes of it
-pub nodes-after :
-    (code : List ℕ) (l u : ℕ) {row : Row} {y : ℕ} {ys : List ℕ}
-    → row ≡ rowAt code (u / 2)
-    → y ≡ cond (eqb (row .b) l) (cond (eqb (row .a) opMvLoc) 1 (cond (eqb (row .a) opStLoc) 0 (u % 2))) (u % 2)
-    → ys ≡ y ∷ []
-    → nodesFrom 2 (below (rowCount code) (nextOf row (u / 2))) ys ≡ succs 2 (nexts code) (localMoves (bareStep code) l) u
-unfolding succs nexts localMoves statusAfter
-nodes-after code l u e h q = rw (q, h, e)
 
 module _ (code : List ℕ) (params l : ℕ) where
   -- the graph of its nodes, and the set of the first one
@@ -70,12 +65,19 @@ module _ (code : List ℕ) (params l : ℕ) where
   abbrev first : List Bool
   first = mark (replicate (2 * rowCount code) false) (startStatus params l ∷ [])
 
-  -- where a search stands
-  abbrev pub Spreading : List Bool → List ℕ → ℕ → ℕ → Type 0
-  Spreading seen queue head tail = Searched graph first seen queue head tail
+  -- where a search stands that follows the local at instruction i with status x, and one that follows nothing
+  abbrev pub Spreading : List Bool → List ℕ → ℕ → ℕ → ℕ → ℕ → Type 0
+  Spreading seen queue head tail i x = Searched graph first seen queue head tail (2 * i + x)
+
+  abbrev pub Waiting : List Bool → List ℕ → ℕ → ℕ → Type 0
+  Waiting seen queue head tail = Searched graph first seen queue head tail (length first)
+
+  -- and one that went on so
+  abbrev pub Followed : List Bool → List ℕ → ℕ → Going → Type 0
+  Followed seen queue head r = Searched graph first seen queue head (r .tail) (cond (r .going) (2 * r .at + r .place) (length first))
 
   status-below : (i x y : ℕ) → x < 2 → Mem y (localMoves (bareStep code) l i x) → y < 2
-  unfolding localMoves statusAfter
+  unfolding localMoves
   status-below i x y h m = rw (List·Memᴰ·eq-of-singleton m) (after-below (rowAt code i) l x h)
 
   length-first : length first ≡ 2 * rowCount code
@@ -84,31 +86,67 @@ module _ (code : List ℕ) (params l : ℕ) where
   inside : Inside graph (length first)
   inside = rw length-first (graph-inside 2 (nexts code) (localMoves (bareStep code) l) (rowCount code) (omega arith) status-below (next-below code))
 
-  pub local-start :
-      (queue : List ℕ) (seen : List Bool) {x : Visit}
-      → 0 < rowCount code
-      → rowCount code ≤ 256
-      → 512 ≤ length queue
-      → seen ≡ replicate (2 * rowCount code) false
-      → x ≡ visitOf seen queue 0 (startStatus params l)
-      → Spreading (x .visited) (x .queue) 0 (x .tail)
-  unfolding mark
-  local-start queue seen some few room e h =
-      search-one graph (2 * rowCount code) queue (startStatus params l) (omega arith) (omega arith) (omega (arith, start-below params l)) (rw e at h)
+  -- the nodes that go on from a node, with what the code reads and computes of it
+  nodes-after :
+      (i x : ℕ) {row : Row} {ys : List ℕ}
+      → x < 2
+      → row ≡ rowAt code i
+      → ys ≡ statusAfter (rowStep row) l x ∷ []
+      → graph (2 * i + x) ≡ nodesFrom 2 (below (rowCount code) (nextOf row i)) ys
+  unfolding succs nexts localMoves
+  nodes-after i x h e q = rw (node-div 2 i x h, node-mod 2 i x h, q, e)
 
-  module _ {seen : List Bool} {queue : List ℕ} {head tail : ℕ} (state : Spreading seen queue head tail) where
+  pub local-start :
+      (queue : List ℕ) (empty : List Bool) {seen : List Bool}
+      → 0 < rowCount code
+      → 512 ≤ length queue
+      → rowCount code ≤ 256
+      → empty ≡ replicate (2 * rowCount code) false
+      → seen ≡ entering empty (startStatus params l)
+      → Spreading seen queue 0 0 0 (startStatus params l)
+  local-start queue empty some room few e h =
+      let z : 2 * 0 + startStatus params l ≡ startStatus params l = omega arith in
+      rw z (search-one graph (2 * rowCount code) queue (startStatus params l) (omega arith) (omega (arith, start-below params l)) (rw e at h))
+
+  module _ {seen : List Bool} {queue : List ℕ} {head tail i x : ℕ} (state : Spreading seen queue head tail i x) where
+    -- the search goes on from the node that is followed
+    pub local-on :
+        {row : Row} {ys : List ℕ} {more : List Bool} {longer : List ℕ} {r : Going}
+        → rowCount code ≤ 256
+        → i < rowCount code
+        → x < 2
+        → row ≡ rowAt code i
+        → ys ≡ statusAfter (rowStep row) l x ∷ []
+        → GoesOn 2 (rowCount code) row i ys seen queue tail more longer r
+        → Followed more longer head r
+    local-on few h k e q on = on .search graph first head (2 * i + x) (nodes-after i x k e q) inside length-first (omega (arith, length-first)) (omega (arith, length-first)) state
+
+  -- it follows a node, or nothing
+  module _ {seen : List Bool} {queue : List ℕ} {head : ℕ} (r : Going) (state : Followed seen queue head r) where
+    pub local-still : r .going ≡ true → Spreading seen queue head (r .tail) (r .at) (r .place)
+    local-still e = rw e at state
+
+    pub local-rests : r .going ≡ false → Waiting seen queue head (r .tail)
+    local-rests e = rw e at state
+
+  module _ {seen : List Bool} {queue : List ℕ} {head tail : ℕ} (state : Waiting seen queue head tail) where
     pub local-tail : tail ≤ 2 * rowCount code
     local-tail = omega (arith, length-first, tail-le (state .visits))
 
     pub local-queued : head < tail → getD queue head 0 < 2 * rowCount code
     local-queued h = omega (arith, length-first, queued-below (state .visits) head h)
 
-    pub local-next : {x : Visit} → rowCount code ≤ 256 → head < tail → x ≡ visitAll (after seen queue tail) (graph (getD queue head 0)) → Spreading (x .visited) (x .queue) (head + 1) (x .tail)
-    local-next few h = expand state inside (omega (arith, length-first)) h
+    pub local-next : head < tail → Spreading seen queue (head + 1) tail (getD queue head 0 / 2) (getD queue head 0 % 2)
+    local-next h = let z : 2 * (getD queue head 0 / 2) + getD queue head 0 % 2 ≡ getD queue head 0 = omega arith in rw z (taken state (omega arith) h)
 
     pub local-found : tail ≤ head → seen ≡ nodesOf code params l
     unfolding nodesOf localNodes reached
-    local-found h = rw length-first at (finish state (omega (arith, state .ahead)))
+    local-found h = rw length-first at (finish state (omega arith) h)
+
+-- one place
+pub one-place : (m : Moves) {y z : ℕ} → placesOf m ≡ added (placesOf (record { len = 0; places = 0 })) y → y ≡ z → placesOf m ≡ z ∷ []
+unfolding placesOf added
+one-place m e h = rw (← h) e
 
 -- the nodes of l locals
 pub nodes-fit : (n l : ℕ) → n ≤ 256 → l ≤ 16 → 2 * n * l ≤ 8192

@@ -4,14 +4,12 @@ ghost use mathlib.Core.Bool.{false, not, _&&_};
 ghost use Prim.Native.Nat.{ℕ, _+_, _*_, _≤_, _<_};
 ghost use lib.Dec.{ltb};
 ghost use lib.ListN.{length, take, drop};
-ghost use Rattle.reach.specs.Search.{after, visitAll};
 ghost use Rattle.table.specs.Rows.{rowAt, rowCount};
 ghost use Rattle.program.specs.Program.{isRecord, localKind, codeOf, codeVerdict};
 ghost use Rattle.program.specs.Limits.{limited};
-ghost use Rattle.flow.specs.Steps.{nexts};
-ghost use Rattle.flow.specs.Places.{succs, statusAfter, localMoves, startStatus};
+ghost use Rattle.flow.specs.Places.{statusAfter, startStatus};
 ghost use Rattle.locals.specs.Sets.{inserted, contains, those};
-ghost use Rattle.locals.specs.Locals.{rowStep, bareStep, parameterCount, needsFull, nodesOf, localFault};
+ghost use Rattle.locals.specs.Locals.{rowStep, parameterCount, needsFull, nodesOf, localFault};
 ghost use Rattle.locals.specs.Faults.{emptyAt, fullAt, recordAt, someRecord, faultFrom};
 ghost use Rattle.locals.specs.Within.{localsWithin};
 use spread::Moves;
@@ -63,34 +61,6 @@ fn status_after(row: Row, l: usize, x: usize) -> usize
     x
 }
 
-// Visits what follows from node u: local l at instruction u / 2 with status u % 2.
-fn expand(
-    visited: &mut [bool],
-    queue: &mut [u16],
-    code: &[u8],
-    tail: usize,
-    l: usize,
-    u: usize,
-) -> usize
-    requires { ⌜ u < 512 ⌝ }
-    ensures { λ r. ⌜ after (now (visited .exit)) (now (queue .exit)) r ≡ visitAll (after (now (visited .entry)) (now (queue .entry)) tail) (succs 2 (nexts (now (code .entry))) (localMoves (bareStep (now (code .entry))) l) u) ⌝ }
-{
-    let n = code.len() / format::ROW_BYTES;
-    let i = u / 2;
-    let row = table::row_at(code, i);
-    let y = status_after(row, l, u % 2);
-    spread::go_on(
-        visited,
-        queue,
-        tail,
-        2,
-        n,
-        row,
-        i as u16,
-        Moves::NONE.add(y as u16),
-    )
-}
-
 // The status that local l starts with: a parameter starts full, any other local empty.
 fn start_status(params: usize, l: usize) -> usize
     ensures { λ r. ⌜ r ≡ startStatus params l ⌝ }
@@ -98,19 +68,36 @@ fn start_status(params: usize, l: usize) -> usize
     if l < params { 0 } else { 1 }
 }
 
-// The nodes of local l: breadth first, each once.
+// The nodes of local l, each visited once: a walk is followed while its nodes are new, and the other branches wait in the queue.
 fn spread_local(visited: &mut [bool], queue: &mut [u16], code: &[u8], params: usize, l: usize)
     requires { ⌜ (length (now visited) ≡ 2 * rowCount (now code)) × (512 ≤ length (now queue)) × (0 < rowCount (now code)) × (rowCount (now code) ≤ 256) ⌝ }
     ensures { λ _. ⌜ now (visited .exit) ≡ nodesOf (now (code .entry)) params l ⌝ }
 {
-    let start = start_status(params, l);
+    let n = code.len() / format::ROW_BYTES;
     reach::clear(visited);
-    let mut tail = reach::visit(visited, queue, 0, start);
+    let mut x = start_status(params, l);
+    reach::enter(visited, x);
+    let mut i = 0;
     let mut head = 0;
-    while head < tail {
+    let mut tail = 0;
+    loop {
+        let row = table::row_at(code, i);
+        let y = status_after(row, l, x);
+        let moves = Moves::NONE.add(y as u16);
+        let on = spread::go_on(visited, queue, tail, 2, n, row, i, moves);
+        tail = on.tail;
+        i = on.at;
+        x = on.place;
+        if on.going {
+            continue;
+        }
+        if tail <= head {
+            return;
+        }
         let u = queue[head] as usize;
-        tail = expand(visited, queue, code, tail, l, u);
         head += 1;
+        i = u / 2;
+        x = u % 2;
     }
 }
 

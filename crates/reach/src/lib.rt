@@ -1,9 +1,8 @@
-// Breadth-first search over a finite graph whose nodes are numbers: the set of visited nodes, and the queue of these nodes in the order of
-// their visits.
+// Search over a finite graph whose nodes are numbers: the set of visited nodes, and the queue of those that wait to be expanded.
 ghost use mathlib.Core.Path.{_≡_};
 ghost use mathlib.Core.Bool.{false};
 ghost use lib.ListN.{length, replicate};
-ghost use Rattle.reach.specs.Search.{after, visitOf};
+ghost use Rattle.reach.specs.Search.{after, visitOf, isUnvisited, entering};
 
 // The largest node number that an entry of the queue has room for.
 const MAX_NODE: usize = 65535;
@@ -39,4 +38,18 @@ pub fn visit(visited: &mut [bool], queue: &mut [u16], tail: usize, v: usize) -> 
     visited[v] = true;
     queue[tail] = v as u16;
     tail + 1
+}
+
+// Marks a node that is to be followed at once. Whether it is new: a number that is no node and a visited node change nothing.
+pub fn enter(visited: &mut [bool], node: usize) -> bool
+    ensures { λ r. ⌜ (r ≡ isUnvisited (now (visited .entry)) node) × (now (visited .exit) ≡ entering (now (visited .entry)) node) ⌝ }
+{
+    if visited.len() <= node {
+        return false;
+    }
+    if visited[node] {
+        return false;
+    }
+    visited[node] = true;
+    true
 }

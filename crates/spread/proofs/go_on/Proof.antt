@@ -1,69 +1,40 @@
-use Rattle.spread.proofs.Laws.{go-none, go-branch, go-past, go-both}
+use Prim.Native.Nat.{_*_, _≤_, _<_}
+use mathlib.Core.Path.{_∙_}
+use native.Mathlib.Omega.{arith}
 use borrow.Author.Needs.{needs}
+use Rattle.spread.proofs.Laws.{followed-small, node-small, goes-on}
 use Rattle.spread.proofs.go_on.Statement.{statement}
 use Rattle.spread.proofs.go_on.Tie as tie
 
-cast-target : tie.Need-cast-target
-cast-target c = search needs
+-- the number of the node that is followed is small
+small : (c : tie.After-enter-arg) → c .before .before .before .before .before .before .before .before .before .before .before .before .args .width * c .before .before .before .before .before .before .before .before .before .followed .result ≤ 16711425
+small c =
+    let a = c .before .before .before .before .before .before .before .before .before .before .before .before .args in
+    let l : c .before .before .before .before .before .before .before .before .before .followed .result < 65536 = rw (c .before .before .before .before .before .before .before .before .before .followed .ensures) (followed-small (a .n) (a .row) (a .i) (a .moves .len) (omega (arith, c .before .before .before .before .before .before .before .before .before .before .before .before .pre)) (search needs) (omega (arith, c .before .before .before .before .before .before .before .before .before .before .before .before .pre))) in
+    node-small (a .width) (c .before .before .before .before .before .before .before .before .before .followed .result) (search needs) l
+
+mul-enter : tie.Need-mul-enter
+mul-enter c = omega (arith, small c)
+
+add-enter : tie.Need-add-enter
+add-enter c = omega (arith, small c, c .before .before .before .before .before .before .before .before .last .ensures)
 
 returns : tie.Need-returns
-returns c = go-none _ _ _ _ _ _ (c .if1 .taken)
-
-visit-instruction-requires : tie.Need-visit-instruction-requires
-visit-instruction-requires c κs = search needs
-
-same-length : tie.Need-same-length
-same-length c = search needs
-
-same-length-2 : tie.Need-same-length-2
-same-length-2 c = search needs
-
-returns-2 : tie.Need-returns-2
-returns-2 c = go-branch _ _ _ _ _ _ (c .before .before .before .before .before .before .before .if2 .taken) (c .before .before .before .before .visit-instruction .ensures)
-
-add-visit-instruction : tie.Need-add-visit-instruction
-add-visit-instruction c = search needs
-
-visit-instruction-requires-2 : tie.Need-visit-instruction-requires-2
-visit-instruction-requires-2 c κs = search needs
-
-visit-instruction-requires-3 : tie.Need-visit-instruction-requires-3
-visit-instruction-requires-3 c κs = search needs
-
-same-length-3 : tie.Need-same-length-3
-same-length-3 c = search needs
-
-same-length-4 : tie.Need-same-length-4
-same-length-4 c = search needs
-
-returns-3 : tie.Need-returns-3
-returns-3 c = go-both _ _ _ _ _ _ _ (c .before .before .before .before .before .before .before .if3 .taken) (c .before .before .before .before .before .before .before .before .before .before .before .before .visit-instruction2 .ensures) (c .before .before .before .before .visit-instruction3 .ensures)
-
-same-length-5 : tie.Need-same-length-5
-same-length-5 c = search needs
-
-same-length-6 : tie.Need-same-length-6
-same-length-6 c = search needs
-
-returns-4 : tie.Need-returns-4
-returns-4 c = go-past _ _ _ _ _ _ (c .before .before .before .before .before .before .before .before .before .if1 .left) (c .before .before .before .before .before .before .before .before .if2 .left) (c .if3 .left) (c .before .before .before .before .before .visit-instruction2 .ensures)
+returns c =
+    let others = c .before .before .before .before .before .before .before .before .visit-others in
+    let entered = c .before .before .enter .ensures in
+    goes-on _ _ _ _ (c .before .before .before .before .before .before .before .before .before .before .before .before .before .before .before .args .moves) _ _ _ (c .before .before .before .before .before .before .before .before .before .before .before .before .followed .ensures) (c .before .before .before .before .before .before .before .before .before .before .before .last .ensures) (others .ensures) (others .kept .0 ∙ c .before .before .before .before .before .before .before .before .before .before .before .before .before .before .before .pre .0) (entered .0) (entered .1)
 
 pub go-on-spec : {M : Type 1} → statement M
 go-on-spec =
     tie.close
     (tie.spec
-    cast-target
-    returns
-    visit-instruction-requires
-    same-length
-    same-length-2
-    returns-2
-    add-visit-instruction
-    visit-instruction-requires-2
-    visit-instruction-requires-3
-    same-length-3
-    same-length-4
-    returns-3
-    same-length-5
-    same-length-6
-    returns-4)
+    (λ c κs. search needs)
+    (λ c κs. search needs)
+    (λ c κs. search needs)
+    mul-enter
+    add-enter
+    (λ c κs. search needs)
+    (λ c. search needs)
+    (λ c. search needs)
+    returns)

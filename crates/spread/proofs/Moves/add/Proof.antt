@@ -4,20 +4,11 @@ use native.Mathlib.Omega.{arith}
 use Rattle.spread.proofs.Moves.add.Statement.{statement}
 use Rattle.spread.proofs.Moves.add.Tie as tie
 
-mul-self : tie.Need-mul-self
-mul-self c = search needs
-
-element-write-self : tie.Need-element-write-self
-element-write-self c = search needs
-
-add-self : tie.Need-add-self
-add-self c = search needs
-
 returns : tie.Need-returns
-returns c = add-room (c .before .args .t1) (search needs) (c .before .args .place) (omega arith)
+returns c = let a = c .before .before .args in add-room (a .self) (a .place) (c .before .before .pre) (c .before .if1 .taken)
 
 returns-2 : tie.Need-returns-2
-returns-2 c = add-full (c .before .args .t1) (search needs) (c .before .args .place) (omega arith)
+returns-2 c = let a = c .before .args in add-full (a .self) (a .place) (c .if1 .left)
 
 pub add-spec : {M : Type 1} → statement M
-add-spec = tie.close (tie.spec mul-self element-write-self add-self returns returns-2)
+add-spec = tie.close (tie.spec (λ c. search needs) (λ c. search needs) (λ c. search needs) returns returns-2)
