@@ -89,7 +89,7 @@ unfolding viewStep
 length-fresh s = length-tabulate _ (s .gives)
 
 -- no marks make no places
-none-fresh : (ms : List Bool) → ((r : ℕ) → getD ms r false ≡ false) → freshPlaces ms ≡ []
+pub none-fresh : (ms : List Bool) → ((r : ℕ) → getD ms r false ≡ false) → freshPlaces ms ≡ []
 unfolding freshPlaces
 none-fresh [] h = refl
 none-fresh (m ∷ ms) h = rw (h 0) (none-fresh ms (λ r. h (suc r)))

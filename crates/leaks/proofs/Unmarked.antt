@@ -1,35 +1,42 @@
 -- Where no instruction makes a mark and no parameter is given as marked, no operand is marked: from bare places only bare places are reached. This is about the
 -- nodes, for any steps; `no-operand-mark` (flow/proofs/Marks) is its like about walks.
-use Prim.Native.Nat.{ℕ, zero, suc, _+_, _<_, _≤_}
+use Prim.Native.Nat.{ℕ, zero, suc, _+_, _-_, _<_, _≤_}
 use mathlib.Core.Path.{_≡_, refl, sym, ap, _∙_}
-use mathlib.Core.Bool.{Bool, true, false, false≢true, _&&_, and-false}
+use mathlib.Core.Bool.{Bool, true, false, not, false≢true, _&&_, _||_, and-false}
+use mathlib.Core.Logic.{_⊎_, inl, inr}
+use native.Mathlib.Decide.{decLt}
+use lib.ListN.{getD, List·getD-eq-default}
 use mathlib.Core.List.{List, [], _∷_, List·Memᴰ·eq-of-singleton}
 use native.Mathlib.Nat.{zero-add}
 use native.Mathlib.Numerals.{add-one}
 use native.Mathlib.Omega.{arith}
-use borrow.Author.Tests.{leb-true}
+use borrow.Author.Tests.{leb-true, le-leb, lt-leb, eqb-true, not-true}
 use lib.Dec.{eqb, leb}
-use Rattle.laws.specs.Lists.{none, every}
+use Rattle.laws.specs.Lists.{none, every, tabulate}
 use Rattle.laws.proofs.First.{clean-if}
-use Rattle.laws.proofs.Lists.{every-at}
+use Rattle.laws.proofs.Lists.{every-at, length-tabulate, getD-tabulate}
 use Rattle.reach.specs.Reach.{Mem}
 use Rattle.table.specs.declared.Verdict.the-variants.{Accepted}
 use Rattle.table.specs.declared.index.Index.{Index}
 use Rattle.table.specs.declared.index.ProcedureEntry.{ProcedureEntry}
-use Rattle.table.specs.Format.{opCall, opRet}
-use Rattle.table.specs.Rows.{rowCount}
-use Rattle.program.specs.Program.{codeOf, codeVerdict}
+use Rattle.table.specs.declared.Row.{Row}
+use Rattle.table.specs.declared.index.TypeEntry.{TypeEntry}
+use Rattle.table.specs.Format.{opBorrowFld, opCall, opRet}
+use Rattle.table.specs.Rows.{rowCount, rowAt}
+use Rattle.program.specs.Program.{codeOf, codeVerdict, resultKinds}
+use Rattle.kinds.specs.Effects.{effects}
 use Rattle.flow.specs.Steps.{Step, nexts}
 use Rattle.flow.specs.Places.{freshPlaces, within, markMoves, placeMoves, startPlaces, markNodes, operandMarked}
 use Rattle.flow.specs.Paths.{Path, atFirst, onwards}
 use Rattle.flow.proofs.Paths.{path-shown}
 use Rattle.spread.proofs.Laws.{next-below}
 use Rattle.locals.specs.Locals.{parameterCount}
-use Rattle.steps.specs.Steps.{stepAt, givenBy}
+use Rattle.steps.specs.Steps.{Given, borrowsGuarded, freshMarks, stepOf, stepAt, givenBy}
+use Rattle.steps.proofs.Laws.{length-kinds, listed}
 use Rattle.leaks.specs.declared.Shapes.{Shapes}
 use Rattle.leaks.specs.Leaks.{someMarked, leakIn, stepsOf, marksOf, leakFrom}
-use Rattle.leaks.specs.Unmarked.{makesNoMark}
-use Rattle.leaks.proofs.Moves.{moves-below}
+use Rattle.leaks.specs.Unmarked.{makesNoMark, canMark, isQuiet}
+use Rattle.leaks.proofs.Moves.{moves-below, none-fresh}
 use Rattle.leaks.proofs.Laws.{some-none, some-next}
 
 -- Laws of `every`, for a test that is asked of one number after the other.
@@ -58,6 +65,61 @@ makes-none s e = go (leb (s .takes) 16) (freshPlaces (s .fresh)) refl refl e
     go true [] p q r = (leb-true (s .takes) 16 p, q)
     go true (x ∷ xs) p q r = absurd (false≢true r)
     go false xs p q r = absurd (false≢true r)
+
+-- an instruction that is quiet makes no mark, and takes at most 16 operands or does not leak
+Quiet : Step → Type 0
+Quiet s = (freshPlaces (s .fresh) ≡ []) × ((s .takes ≤ 16) ⊎ ((eqb (s .opcode) opCall ≡ false) × (eqb (s .opcode) opRet ≡ false)))
+
+no-marks : (f : ℕ → Bool) (n : ℕ) → ((r : ℕ) → f r ≡ false) → freshPlaces (tabulate f n) ≡ []
+no-marks f n h = none-fresh (tabulate f n) (λ r. go r (decLt r n))
+  where
+    go : (r : ℕ) → Dec (r < n) → getD (tabulate f n) r false ≡ false
+    go r (yes l) = getD-tabulate f false n r l ∙ h r
+    go r (no l) = List·getD-eq-default (tabulate f n) false {n = r} (rw length-tabulate (omega arith))
+
+quiet-step : (t : List ℕ) (given : Given) (own : ProcedureEntry) (named : TypeEntry) (callee : ProcedureEntry) (row : Row)
+    → own .code - own .results ≤ 16
+    → canMark (row .a) ≡ false
+    → Quiet (stepOf t given own named callee row)
+unfolding canMark stepOf freshMarks borrowsGuarded effects resultKinds Quiet
+quiet-step t given own named callee row few e = go (eqb (row .a) opBorrowFld) (eqb (row .a) opCall) (eqb (row .a) opRet) refl refl refl e
+  where
+    s : Step
+    s = stepOf t given own named callee row
+
+    go : (a b c : Bool) → eqb (row .a) opBorrowFld ≡ a → eqb (row .a) opCall ≡ b → eqb (row .a) opRet ≡ c → (a || b) ≡ false → Quiet s
+    go true b c p q r e = absurd (false≢true (sym e))
+    go false true c p q r e = absurd (false≢true (sym e))
+    go false false true p q r e =
+        let takes = listed t own named callee row 16 (eqb-true (row .a) opRet r) (sym (length-kinds t (own .results) (own .code))) refl .0 in
+        (no-marks _ _ (λ k. rw (q, p)), inl (rw (← takes) few))
+    go false false false p q r e = (no-marks _ _ (λ k. rw (q, p)), inr (q, r))
+
+quiet-fresh : (s : Step) → Quiet s → freshPlaces (s .fresh) ≡ []
+unfolding Quiet
+quiet-fresh s q = q .0
+
+-- as the code asks it
+module _ (c : List ℕ) (p : ProcedureEntry) where
+  pub quiet-many : 16 < p .code - p .results → false ≡ isQuiet c p
+  unfolding isQuiet
+  quiet-many h = rw (lt-leb (p .code - p .results) 16 h)
+
+  pub quiet-fails : every (λ (i : ℕ). not (canMark (rowAt c i .a))) (rowCount c) ≡ false → false ≡ isQuiet c p
+  unfolding isQuiet
+  quiet-fails e = rw (e, and-false (leb (p .code - p .results) 16))
+
+  pub quiet-all : p .code - p .results ≤ 16 → every (λ (i : ℕ). not (canMark (rowAt c i .a))) (rowCount c) ≡ true → true ≡ isQuiet c p
+  unfolding isQuiet
+  quiet-all h e = rw (e, le-leb (p .code - p .results) 16 h)
+
+  quiet-inv : isQuiet c p ≡ true → (p .code - p .results ≤ 16) × (every (λ (i : ℕ). not (canMark (rowAt c i .a))) (rowCount c) ≡ true)
+  unfolding isQuiet
+  quiet-inv e = go (leb (p .code - p .results) 16) (every (λ (i : ℕ). not (canMark (rowAt c i .a))) (rowCount c)) refl refl e
+    where
+      go : (a b : Bool) → leb (p .code - p .results) 16 ≡ a → every (λ (i : ℕ). not (canMark (rowAt c i .a))) (rowCount c) ≡ b → (a && b) ≡ true → (p .code - p .results ≤ 16) × (b ≡ true)
+      go true b q r e = (leb-true (p .code - p .results) 16 q, e)
+      go false b q r e = absurd (false≢true e)
 
 -- the start is bare
 start-bare : (params : ℕ) → startPlaces (λ (l : ℕ). false) params ≡ 0 ∷ []
@@ -98,28 +160,40 @@ module _ (next : ℕ → List ℕ) (step : ℕ → Step) (params n : ℕ) (some 
   some-unmarked i zero h = some-none _ i
   some-unmarked i (suc j) h = rw add-one at (some-next _ i j (some-unmarked i j (omega arith)) (operand-unmarked i j (omega arith)))
 
--- an instruction none of whose operands is marked earns nothing
-no-leak : (nodes : List Bool) (s : Step) (i : ℕ) → someMarked nodes i (s .takes) ≡ false → leakIn nodes s i ≡ 0
-unfolding leakIn
-no-leak nodes s i e = rw (e, and-false (eqb (s .opcode) opCall), and-false (eqb (s .opcode) opRet))
+-- an instruction that is quiet earns nothing where no operand is marked
+no-leak : (nodes : List Bool) (s : Step) (i : ℕ) → Quiet s → ((n : ℕ) → n ≤ 16 → someMarked nodes i n ≡ false) → leakIn nodes s i ≡ 0
+unfolding leakIn Quiet
+no-leak nodes s i (fresh, inl few) none = rw (none (s .takes) few, and-false (eqb (s .opcode) opCall), and-false (eqb (s .opcode) opRet))
+no-leak nodes s i (fresh, inr others) none = rw (others .0, others .1)
 
--- a procedure in which no mark is made is accepted
-module _ (t c : List ℕ) (ix : Index) (results : List Bool) (p : ProcedureEntry) (shapes : Shapes) where
+-- a procedure whose instructions are quiet is accepted
+module _ (t c : List ℕ) (ix : Index) (results : List Bool) (p : ProcedureEntry) (part : c ≡ codeOf t p) (some : 0 < rowCount c) where
   abbrev step : ℕ → Step
   step = stepAt t ix (givenBy (λ (l : ℕ). false) results) p
 
-  pub unmarked-verdict :
-      c ≡ codeOf t p
-      → 0 < rowCount c
-      → ((i : ℕ) → i < rowCount c → stepsOf shapes i ≡ step i)
-      → every (λ (i : ℕ). makesNoMark (stepsOf shapes i)) (rowCount c) ≡ true
-      → Accepted (rowCount c) ≡ codeVerdict (leakFrom t ix (givenBy (λ (l : ℕ). false) results) p (marksOf t ix (givenBy (λ (l : ℕ). false) results) p)) (p .code) (rowCount c)
-  unfolding codeVerdict leakFrom marksOf givenBy
-  unmarked-verdict e some same made = sym (clean-if Accepted _ _ 0 (rowCount c) (λ j lo hi. clean j (omega arith)) ∙ ap Accepted (zero-add (rowCount c)))
-    where
-      each : (i : ℕ) → i < rowCount c → (step i .takes ≤ 16) × (freshPlaces (step i .fresh) ≡ [])
-      each i l = makes-none (step i) (ap makesNoMark (sym (same i l)) ∙ every-at (λ (i : ℕ). makesNoMark (stepsOf shapes i)) (rowCount c) i made l)
+  abbrev Clean : Type 0
+  Clean = Accepted (rowCount c) ≡ codeVerdict (leakFrom t ix (givenBy (λ (l : ℕ). false) results) p (marksOf t ix (givenBy (λ (l : ℕ). false) results) p)) (p .code) (rowCount c)
 
+  clean-verdict : ((i : ℕ) → i < rowCount c → Quiet (step i)) → Clean
+  unfolding codeVerdict leakFrom marksOf givenBy
+  clean-verdict each = sym (clean-if Accepted _ _ 0 (rowCount c) (λ j lo hi. clean j (omega arith)) ∙ ap Accepted (zero-add (rowCount c)))
+    where
       clean : (j : ℕ) → j < rowCount c → leakFrom t ix (givenBy (λ (l : ℕ). false) results) p (marksOf t ix (givenBy (λ (l : ℕ). false) results) p) j ≡ 0
       clean j l =
-          rw (← e) (no-leak _ (step j) j (some-unmarked (nexts c) step (parameterCount t p) (rowCount c) some (next-below c) (λ i l. each i l .1) j (step j .takes) (each j l .0)))
+          rw (← part) (no-leak _ (step j) j (each j l) (some-unmarked (nexts c) step (parameterCount t p) (rowCount c) some (next-below c) (λ i h. quiet-fresh (step i) (each i h)) j))
+
+  -- so is one whose code can make none, and one in which none is made
+  pub quiet-verdict : isQuiet c p ≡ true → Clean
+  unfolding stepAt
+  quiet-verdict e =
+      let q = quiet-inv c p e in
+      clean-verdict (λ i l. rw (← part) (quiet-step t _ p _ _ (rowAt c i) (q .0) (not-true _ (every-at _ (rowCount c) i (q .1) l))))
+
+  pub unmarked-verdict :
+      (shapes : Shapes)
+      → ((i : ℕ) → i < rowCount c → stepsOf shapes i ≡ step i)
+      → every (λ (i : ℕ). makesNoMark (stepsOf shapes i)) (rowCount c) ≡ true
+      → Clean
+  unfolding Quiet
+  unmarked-verdict shapes same made =
+      clean-verdict (λ i l. let m = makes-none (step i) (ap makesNoMark (sym (same i l)) ∙ every-at (λ (i : ℕ). makesNoMark (stepsOf shapes i)) (rowCount c) i made l) in (m .1, inl (m .0)))

@@ -13,7 +13,7 @@ use Rattle.program.specs.Limits.{overLimits}
 use Rattle.program.proofs.Laws.{limits-held, limited-in, limited-out}
 use Rattle.locals.specs.Locals.{parameterCount}
 use Rattle.leaks.proofs.Laws.{procedure-verdict, parameters-fit}
-use Rattle.leaks.proofs.Unmarked.{unmarked-verdict}
+use Rattle.leaks.proofs.Unmarked.{quiet-verdict, unmarked-verdict}
 use Rattle.leaks.proofs.judge_procedure.Statement.{statement}
 use Rattle.leaks.proofs.judge_procedure.Tie as tie
 
@@ -37,17 +37,23 @@ in-limits c = sym (c .before .before .over-limits .ensures) ∙ c .before .if1 .
 limits : (c : tie.Else2) → (parameterCount (start c .args .table .now) (start c .args .own) ≤ 16) × (rowCount (start c .args .code .now) ≤ 256)
 limits c = let held = limits-held _ (start c .args .own) (in-limits c) in (parameters-fit _ _ (held .0), rw (start c .pre .0) (held .1))
 
-shapes-of-requires : tie.Need-shapes-of-requires
-shapes-of-requires c κs = (start c .pre .0, limits c .1)
-
-no-marks-made-requires : tie.Need-no-marks-made-requires
-no-marks-made-requires c κs = limits (c .before) .1
-
 returns-3 : tie.Need-returns-3
 returns-3 c =
-    let k = c .before .before .before in
+    let k = c .before .before in
     rw (limited-in _ (start k .args .own) _ (in-limits k))
-    (unmarked-verdict (start k .args .table .now) (start k .args .code .now) (start k .args .index) (start k .args .results .now) (start k .args .own) _ (start k .pre .0) (omega arith) (c .before .before .shapes-of .ensures) (sym (c .before .no-marks-made .ensures) ∙ c .if3 .taken))
+    (quiet-verdict (start k .args .table .now) (start k .args .code .now) (start k .args .index) (start k .args .results .now) (start k .args .own) (start k .pre .0) (omega arith) (sym (c .before .is-quiet .ensures) ∙ c .if3 .taken))
+
+shapes-of-requires : tie.Need-shapes-of-requires
+shapes-of-requires c κs = let k = c .before .before in (start k .pre .0, limits k .1)
+
+no-marks-made-requires : tie.Need-no-marks-made-requires
+no-marks-made-requires c κs = limits (c .before .before .before) .1
+
+returns-4 : tie.Need-returns-4
+returns-4 c =
+    let k = c .before .before .before .before .before in
+    rw (limited-in _ (start k .args .own) _ (in-limits k))
+    (unmarked-verdict (start k .args .table .now) (start k .args .code .now) (start k .args .index) (start k .args .results .now) (start k .args .own) (start k .pre .0) (omega arith) _ (c .before .before .shapes-of .ensures) (sym (c .before .no-marks-made .ensures) ∙ c .if4 .taken))
 
 parameters-of-requires : tie.Need-parameters-of-requires
 parameters-of-requires c κs = search needs
@@ -57,7 +63,7 @@ cast-params c = search needs
 
 -- what is known before the search, and the number of places
 abbrev known : tie.After-parameters-of → tie.Else2
-known c = c .before .before .before .before
+known c = c .before .before .before .before .before .before
 
 abbrev places : tie.After-parameters-of → ℕ
 places c = 33 * rowCount (start (known c) .args .code .now)
@@ -110,8 +116,8 @@ spread c = c .before .before .before .before .before .before
 abbrev tested : tie.After-judge-code → tie.Else2
 tested c = known (searched (spread c))
 
-returns-4 : tie.Need-returns-4
-returns-4 c =
+returns-5 : tie.Need-returns-5
+returns-5 c =
     rw (limited-in _ (start (tested c) .args .own) _ (in-limits (tested c)))
     (procedure-verdict (start (tested c) .args .table .now) (start (tested c) .args .code .now) (start (tested c) .args .index) (start (tested c) .args .results .now) (start (tested c) .args .own) _ _ _ _ (start (tested c) .pre .0) (searched (spread c) .parameters-of .ensures) (searched (spread c) .before .before .before .shapes-of .ensures) (filled (spread c) ∙ spread c .spread-marks .ensures) (c .judge-code .ensures))
 
@@ -122,9 +128,11 @@ judge-procedure-spec =
     over-limits-requires
     returns
     returns-2
+    (λ c κs. search needs)
+    returns-3
     shapes-of-requires
     no-marks-made-requires
-    returns-3
+    returns-4
     parameters-of-requires
     cast-params
     mul-end
@@ -136,4 +144,4 @@ judge-procedure-spec =
     judge-code-requires
     same-length
     same-length-2
-    returns-4)
+    returns-5)
