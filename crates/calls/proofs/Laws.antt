@@ -70,13 +70,6 @@ argument-no-call : (l : List ℕ) (i : ℕ) → isKind l argumentRow i ≡ true 
 unfolding isKind
 argument-no-call l i e = ne-eqb (kindAt l i) callRow (λ q. omega (arith, eqb-true (kindAt l i) argumentRow e))
 
-pub calls-past : (l : List ℕ) (i n k : ℕ) → k ≤ length (arguments l i (n - i)) → callsFrom l i (n - i) ≡ callsFrom l (i + k) (n - (i + k))
-calls-past l i n zero h = rw add-zero refl
-calls-past l i n (suc k) h =
-    let a = argument-at l i (n - i) k (omega arith) in
-    let s : i + suc k ≡ i + k + 1 = omega arith in
-    calls-past l i n k (omega arith) ∙ rw s (call-not l (i + k) n (omega arith) (argument-no-call l (i + k) (a .1)))
-
 -- Rows that declare numbers only: a row that does, one that does not, and no more rows.
 module _ (t : List ℕ) (i to : ℕ) where
   pub numbers-more : i < to → rowKind (rowAt t i) ≡ 0 → allNumbers (kindsOf t i to) ≡ allNumbers (kindsOf t (i + 1) to)

@@ -12,6 +12,7 @@ use table::Verdict;
 use table::format;
 use table::index::Index;
 use table::index::ProcedureEntry;
+use table::refusals;
 
 // Kinds of list rows: a call (B the procedure, C the budget), and an argument (D) of the call above.
 pub const CALL: u8 = 1;
@@ -179,13 +180,13 @@ fn list_fault(table: &[u8], list: &[u8], index: Index, i: usize) -> u8
 {
     let row = table::row_at(list, i);
     if bad_form(row, i) {
-        return 15;
+        return refusals::BAD_LIST;
     }
     if row.kind == CALL {
         let p = procedure_in(index, row.b as usize);
         let count = argument_count(list, i);
         if bad_call(table, index.procedures, p, row, count) {
-            return 16;
+            return refusals::BAD_CALL;
         }
     }
     0
@@ -196,10 +197,10 @@ pub fn list_verdict(table: &[u8], list: &[u8], index: Index) -> Verdict
     ensures { λ r. ⌜ r ≡ listOf (now (table .entry)) index (now (list .entry)) ⌝ }
 {
     if MAX_LIST_BYTES < list.len() {
-        return Verdict::Refused(15, 0);
+        return Verdict::Refused(refusals::BAD_LIST, 0);
     }
     if list.len() % format::ROW_BYTES != 0 {
-        return Verdict::Refused(15, 0);
+        return Verdict::Refused(refusals::BAD_LIST, 0);
     }
     let n = list.len() / format::ROW_BYTES;
     let mut i = 0;

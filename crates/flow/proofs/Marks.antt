@@ -2,7 +2,7 @@
 use Prim.Native.Nat.{ℕ, zero, suc, _+_, _-_, _*_, _<_, _≤_}
 use mathlib.Core.Path.{_≡_, refl, ap, sym, _∙_}
 use mathlib.Core.List.{List, [], _∷_, List·Memᴰ·eq-of-singleton, List·Memᴰ·not-nil, List·Memᴰ·cases-cons}
-use mathlib.Core.Bool.{Bool, true, false, cond, false≢true, _&&_}
+use mathlib.Core.Bool.{Bool, true, false, cond, false≢true, _&&_, _||_}
 use mathlib.Core.Logic.{_⊎_, inl, inr, ⊎-elim}
 use native.Mathlib.Nat.{add-zero, zero-add}
 use native.Mathlib.Decide.{decLt, ℕ-discrete}
@@ -15,7 +15,7 @@ use Rattle.table.specs.Format.{opMvLoc, opCpLoc, opStLoc}
 use Rattle.reach.specs.Reach.{Mem, here, there}
 use Rattle.reach.proofs.Laws.{at-below}
 use Rattle.flow.specs.Steps.{Step}
-use Rattle.flow.specs.Walks.{Slot, empty, full, markOf, topMark, pushedOn, localsAfter, pushes, marksAfter, Walk, starts, goesOn, entry}
+use Rattle.flow.specs.Walks.{Slot, empty, full, markOf, topMark, pushedOn, localsAfter, someTop, pushes, marksAfter, Walk, starts, goesOn, entry}
 use Rattle.flow.specs.Places.{localPlace, operandPlace, markPlaces, freshPlaces, within, markMoves, placeMoves, startPlaces, markNodes, localMarked, operandMarked}
 use Rattle.flow.specs.Paths.{Path, atFirst, onwards, Regular, Shallow}
 use Rattle.flow.proofs.Paths.{path-shown, path-found}
@@ -115,7 +115,7 @@ moves-other s l h ne =
 
 -- from an operand that is taken, and from one that is not
 moves-taken : (s : Step) (j : ℕ) → j < s .takes
-    → markMoves s (operandPlace j) ≡ cond (eqb (s .opcode) opStLoc && ltb (s .operand) 16) (localPlace (s .operand) ∷ []) []
+    → markMoves s (operandPlace j) ≡ cond (eqb (s .opcode) opStLoc && ltb (s .operand) 16) (localPlace (s .operand) ∷ []) (cond (s .carries) (operandPlace 0 ∷ []) [])
 unfolding markMoves
 moves-taken s j h =
     rw (ne-eqb (operandPlace j) 0 (λ e. omega arith), le-ltb (operandPlace j) 17 (omega arith), lt-ltb (operandPlace j - 17) (s .takes) (omega arith))
@@ -130,17 +130,46 @@ moves-left s j =
 data Kind (s : Step) (count : ℕ) : Type 0 where
   empties : s .opcode ≡ opMvLoc → s .takes ≡ 0 → s .fresh ≡ false ∷ [] → Kind s count
   copies : s .opcode ≡ opCpLoc → s .takes ≡ 0 → s .fresh ≡ false ∷ [] → Kind s count
-  fills : s .opcode ≡ opStLoc → s .takes ≡ 1 → s .fresh ≡ [] → s .operand < count → Kind s count
-  leaves : eqb (s .opcode) opMvLoc ≡ false → eqb (s .opcode) opCpLoc ≡ false → eqb (s .opcode) opStLoc ≡ false → Kind s count
+  fills : s .opcode ≡ opStLoc → s .takes ≡ 1 → s .fresh ≡ [] → s .carries ≡ false → s .operand < count → Kind s count
+  leaves : eqb (s .opcode) opMvLoc ≡ false → eqb (s .opcode) opCpLoc ≡ false → eqb (s .opcode) opStLoc ≡ false → s .carries ≡ false → Kind s count
+  hands : eqb (s .opcode) opMvLoc ≡ false → eqb (s .opcode) opCpLoc ≡ false → eqb (s .opcode) opStLoc ≡ false → s .carries ≡ true → s .fresh ≡ false ∷ [] → Kind s count
+
+none-carried : {x : Bool} {xs : List Bool} (d : Bool) → x ≡ d → xs ≡ [] → (x ≡ true → xs ≡ false ∷ []) → x ≡ false
+none-carried true e f c = absurd (List·Memᴰ·not-nil (rw (sym (c e) ∙ f) at (here {x = false} {xs = []} refl)))
+none-carried false e f c = e
 
 kind-of : (step : ℕ → Step) (count : ℕ) → Regular step → ((i : ℕ) → step i .opcode ≡ opStLoc → step i .operand < count) → (i : ℕ) → Kind (step i) count
-kind-of step count r h i = go (eqb (step i .opcode) opMvLoc) (eqb (step i .opcode) opCpLoc) (eqb (step i .opcode) opStLoc) refl refl refl
+kind-of step count r h i = go (eqb (step i .opcode) opMvLoc) (eqb (step i .opcode) opCpLoc) (eqb (step i .opcode) opStLoc) (step i .carries) refl refl refl refl
   where
-    go : (a b c : Bool) → eqb (step i .opcode) opMvLoc ≡ a → eqb (step i .opcode) opCpLoc ≡ b → eqb (step i .opcode) opStLoc ≡ c → Kind (step i) count
-    go true b c p q t = let e = eqb-true _ _ p in empties e (r .moving i e .0) (r .moving i e .1)
-    go false true c p q t = let e = eqb-true _ _ q in copies e (r .copying i e .0) (r .copying i e .1)
-    go false false true p q t = let e = eqb-true _ _ t in fills e (r .storing i e .0) (r .storing i e .1) (h i e)
-    go false false false p q t = leaves p q t
+    go : (a b c d : Bool) → eqb (step i .opcode) opMvLoc ≡ a → eqb (step i .opcode) opCpLoc ≡ b → eqb (step i .opcode) opStLoc ≡ c → step i .carries ≡ d → Kind (step i) count
+    go true b c d p q t u = let e = eqb-true _ _ p in empties e (r .moving i e .0) (r .moving i e .1)
+    go false true c d p q t u = let e = eqb-true _ _ q in copies e (r .copying i e .0) (r .copying i e .1)
+    go false false true d p q t u = let e = eqb-true _ _ t in fills e (r .storing i e .0) (r .storing i e .1) (none-carried d u (r .storing i e .1) (r .carrying i)) (h i e)
+    go false false false false p q t u = leaves p q t u
+    go false false false true p q t u = hands p q t u (r .carrying i u)
+
+-- some one of the first n is marked exactly if one is
+some-top : (n : ℕ) (ms : List Bool) (j : ℕ) → j < n → getD ms j false ≡ true → someTop n ms ≡ true
+unfolding someTop
+some-top zero ms j h e = absurd (omega arith)
+some-top (suc n) ms j h e = go (ℕ-discrete j n) (λ b. some-top n ms j b e)
+  where
+    either : (a : Bool) → (a || true) ≡ true
+    either true = refl
+    either false = refl
+
+    go : Dec (j ≡ n) → (j < n → someTop n ms ≡ true) → (someTop n ms || getD ms n false) ≡ true
+    go (yes q) rest = rw (← q, e) (either (someTop j ms))
+    go (no q) rest = rw (rest (omega arith)) refl
+
+top-some : (n : ℕ) (ms : List Bool) → someTop n ms ≡ true → (j : ℕ) × (j < n) × (getD ms j false ≡ true)
+unfolding someTop
+top-some zero ms e = absurd (false≢true e)
+top-some (suc n) ms e = go (someTop n ms) (top-some n ms) refl e
+  where
+    go : (a : Bool) → (someTop n ms ≡ true → (j : ℕ) × (j < n) × (getD ms j false ≡ true)) → someTop n ms ≡ a → (a || getD ms n false) ≡ true → (j : ℕ) × (j < suc n) × (getD ms j false ≡ true)
+    go true ih q d = let r = ih q in (r .0, omega (arith, r .1), r .2)
+    go false ih q d = (n, omega arith, d)
 
 -- the locals that are not the instruction's own stay
 others-stay : (s : Step) (ls : List Slot) (ms : List Bool) (l : ℕ) → (l ≡ s .operand → ⊥) → getD (localsAfter s ls ms) l empty ≡ getD ls l empty
@@ -150,24 +179,30 @@ others-stay s ls ms l ne =
     (getD-set-other ls (s .operand) l _ _ ne)
     refl
 
--- what is pushed: the mark of the instruction's own local, or the fresh operands
-pushes-of : (s : Step) (count : ℕ) (ls : List Slot) → Kind s count
-    → ((pushes s ls ≡ markOf (getD ls (s .operand) empty) ∷ []) × (s .fresh ≡ false ∷ []) × Mem (operandPlace 0) (ownMoves s)) ⊎ (pushes s ls ≡ s .fresh)
+-- what is pushed: the mark of the instruction's own local, that of what it takes, or the fresh operands
+data Pushed (s : Step) (ls : List Slot) (ms : List Bool) : Type 0 where
+  ownOne : pushes s ls ms ≡ markOf (getD ls (s .operand) empty) ∷ [] → s .fresh ≡ false ∷ [] → Mem (operandPlace 0) (ownMoves s) → Pushed s ls ms
+  carriedOne : pushes s ls ms ≡ someTop (s .takes) ms ∷ [] → s .fresh ≡ false ∷ [] → eqb (s .opcode) opStLoc ≡ false → s .carries ≡ true → Pushed s ls ms
+  freshOnes : pushes s ls ms ≡ s .fresh → Pushed s ls ms
+
+pushes-of : (s : Step) (count : ℕ) (ls : List Slot) (ms : List Bool) → Kind s count → Pushed s ls ms
 unfolding pushes ownMoves
-pushes-of s count ls (empties e t f) = inl (rw e refl, f, rw e (here refl))
-pushes-of s count ls (copies e t f) = inl (rw e refl, f, rw e (there (here refl)))
-pushes-of s count ls (fills e t f h) = inr (rw e refl)
-pushes-of s count ls (leaves p q r) = inr (rw (p, q) refl)
+pushes-of s count ls ms (empties e t f) = ownOne (rw e refl) f (rw e (here refl))
+pushes-of s count ls ms (copies e t f) = ownOne (rw e refl) f (rw e (there (here refl)))
+pushes-of s count ls ms (fills e t f c h) = freshOnes (rw (e, c) refl)
+pushes-of s count ls ms (leaves p q r u) = freshOnes (rw (p, q, u) refl)
+pushes-of s count ls ms (hands p q r u f) = carriedOne (rw (p, q, u) refl) f r u
 
 -- where the mark of the own local goes: on what is pushed, or it stays in a local that is left
 own-inv : (s : Step) (count : ℕ) (ls : List Slot) (ms : List Bool) → Kind s count → {y : ℕ} → Mem y (ownMoves s)
-    → ((y ≡ operandPlace 0) × (pushes s ls ≡ markOf (getD ls (s .operand) empty) ∷ [])) ⊎ ((y ≡ localPlace (s .operand)) × (localsAfter s ls ms ≡ ls))
+    → ((y ≡ operandPlace 0) × (pushes s ls ms ≡ markOf (getD ls (s .operand) empty) ∷ [])) ⊎ ((y ≡ localPlace (s .operand)) × (localsAfter s ls ms ≡ ls))
 unfolding ownMoves pushes localsAfter
 own-inv s count ls ms (empties o t f) m = inl (List·Memᴰ·eq-of-singleton (rw o at m), rw o refl)
 own-inv s count ls ms (copies o t f) m =
     ⊎-elim (λ e. inr (e, rw o refl)) (λ r. inl (List·Memᴰ·eq-of-singleton r, rw o refl)) (List·Memᴰ·cases-cons (rw o at m))
-own-inv s count ls ms (fills o t f h) m = absurd (List·Memᴰ·not-nil (rw o at m))
-own-inv s count ls ms (leaves p q r) m = inr (List·Memᴰ·eq-of-singleton (rw (p, q, r) at m), rw (p, r) refl)
+own-inv s count ls ms (fills o t f c h) m = absurd (List·Memᴰ·not-nil (rw o at m))
+own-inv s count ls ms (leaves p q r u) m = inr (List·Memᴰ·eq-of-singleton (rw (p, q, r) at m), rw (p, r) refl)
+own-inv s count ls ms (hands p q r u f) m = inr (List·Memᴰ·eq-of-singleton (rw (p, q, r) at m), rw (p, r) refl)
 
 top-first : (ms : List Bool) → topMark ms ≡ getD ms 0 false
 top-first [] = refl
@@ -191,17 +226,26 @@ Source s ls ms y = (x : ℕ) × MarkedAt ls ms x × Mem y (markMoves s x)
 -- One instruction: a place is marked after it exactly if a mark before it moves there.
 module _ (s : Step) (count : ℕ) (small : count ≤ 16) (kind : Kind s count) (ls : List Slot) (ms : List Bool) (sized : length ls ≡ count) where
   -- the operands that are not taken keep their marks, below what is pushed
-  length-pushes : length (pushes s ls) ≡ length (s .fresh)
-  length-pushes = ⊎-elim (λ q. ap length (q .0) ∙ sym (ap length (q .1))) (λ e. ap length e) (pushes-of s count ls kind)
+  length-pushes : length (pushes s ls ms) ≡ length (s .fresh)
+  length-pushes = go (pushes-of s count ls ms kind)
+    where
+      go : Pushed s ls ms → length (pushes s ls ms) ≡ length (s .fresh)
+      go (ownOne e f m) = ap length e ∙ sym (ap length f)
+      go (carriedOne e f r u) = ap length e ∙ sym (ap length f)
+      go (freshOnes e) = ap length e
 
   left-mark : (j : ℕ) → getD (marksAfter s ls ms) (length (s .fresh) + j) false ≡ getD ms (s .takes + j) false
   unfolding marksAfter
-  left-mark j = rw (← length-pushes) (pushed-old (pushes s ls) (drop (s .takes) ms) j ∙ getD-drop (s .takes) ms j false)
+  left-mark j = rw (← length-pushes) (pushed-old (pushes s ls ms) (drop (s .takes) ms) j ∙ getD-drop (s .takes) ms j false)
 
   -- the only operand that is pushed
-  one-mark : {m : Bool} → pushes s ls ≡ m ∷ [] → getD (marksAfter s ls ms) 0 false ≡ m
+  one-mark : {m : Bool} → pushes s ls ms ≡ m ∷ [] → getD (marksAfter s ls ms) 0 false ≡ m
   unfolding marksAfter pushedOn
   one-mark e = rw e refl
+
+  handed : eqb (s .opcode) opMvLoc ≡ false → eqb (s .opcode) opCpLoc ≡ false → s .carries ≡ true → pushes s ls ms ≡ someTop (s .takes) ms ∷ []
+  unfolding pushes
+  handed p q u = rw (p, q, u) refl
 
   -- a local that StLoc fills
   filled-mark : s .opcode ≡ opStLoc → s .operand < count → markOf (getD (localsAfter s ls ms) (s .operand) empty) ≡ getD ms 0 false
@@ -212,11 +256,12 @@ module _ (s : Step) (count : ℕ) (small : count ≤ 16) (kind : Kind s count) (
 
   fresh-marked : {y : ℕ} → Mem y (freshPlaces (s .fresh)) → y < markPlaces → MarkedAt (localsAfter s ls ms) (marksAfter s ls ms) y
   unfolding marksAfter freshPlaces
-  fresh-marked m h =
-      ⊎-elim
-      (λ q. absurd (List·Memᴰ·not-nil (rw (q .1) at m)))
-      (λ e. let r = fresh-inv (pushes s ls) (drop (s .takes) ms) (rw (← e) at m) in rw (r .2) (onOperand (r .0) (omega arith) (r .3)))
-      (pushes-of s count ls kind)
+  fresh-marked {y} m h = go (pushes-of s count ls ms kind)
+    where
+      go : Pushed s ls ms → MarkedAt (localsAfter s ls ms) (marksAfter s ls ms) y
+      go (ownOne e f q) = absurd (List·Memᴰ·not-nil (rw f at m))
+      go (carriedOne e f r u) = absurd (List·Memᴰ·not-nil (rw f at m))
+      go (freshOnes e) = let r = fresh-inv (pushes s ls ms) (drop (s .takes) ms) (rw (← e) at m) in rw (r .2) (onOperand (r .0) (omega arith) (r .3))
 
   own-marked : {y : ℕ} → s .operand < 16 → markOf (getD ls (s .operand) empty) ≡ true → Mem y (ownMoves s) → MarkedAt (localsAfter s ls ms) (marksAfter s ls ms) y
   own-marked h e m =
@@ -235,13 +280,14 @@ module _ (s : Step) (count : ℕ) (small : count ≤ 16) (kind : Kind s count) (
   taken-marked : (j : ℕ) {y : ℕ} → j < s .takes → getD ms j false ≡ true → Mem y (markMoves s (operandPlace j)) → MarkedAt (localsAfter s ls ms) (marksAfter s ls ms) y
   taken-marked j {y} h e m = go kind (rw (moves-taken s j h) at m)
     where
-      go : Kind s count → Mem y (cond (eqb (s .opcode) opStLoc && ltb (s .operand) 16) (localPlace (s .operand) ∷ []) []) → MarkedAt (localsAfter s ls ms) (marksAfter s ls ms) y
-      go (empties o t f) m = absurd (List·Memᴰ·not-nil (rw o at m))
-      go (copies o t f) m = absurd (List·Memᴰ·not-nil (rw o at m))
-      go (fills o t f b) m =
+      go : Kind s count → Mem y (cond (eqb (s .opcode) opStLoc && ltb (s .operand) 16) (localPlace (s .operand) ∷ []) (cond (s .carries) (operandPlace 0 ∷ []) [])) → MarkedAt (localsAfter s ls ms) (marksAfter s ls ms) y
+      go (empties o t f) m = absurd (omega (arith, t))
+      go (copies o t f) m = absurd (omega (arith, t))
+      go (fills o t f c b) m =
           let z : j ≡ 0 = omega arith in
           rw (List·Memᴰ·eq-of-singleton (rw (o, lt-ltb (s .operand) 16 (omega arith)) at m)) (inLocal (s .operand) (omega arith) (filled-mark o b ∙ (rw z at e)))
-      go (leaves p q r) m = absurd (List·Memᴰ·not-nil (rw r at m))
+      go (leaves p q r u) m = absurd (List·Memᴰ·not-nil (rw (r, u) at m))
+      go (hands p q r u f) m = rw (List·Memᴰ·eq-of-singleton (rw (r, u) at m)) (onOperand 0 (omega arith) (one-mark (handed p q u) ∙ some-top (s .takes) ms j h e))
 
   left-marked : (j : ℕ) {y : ℕ} → getD ms (s .takes + j) false ≡ true → Mem y (markMoves s (operandPlace (s .takes + j))) → y < markPlaces
       → MarkedAt (localsAfter s ls ms) (marksAfter s ls ms) y
@@ -267,9 +313,10 @@ module _ (s : Step) (count : ℕ) (small : count ≤ 16) (kind : Kind s count) (
       go : Kind s count → Source s ls ms (localPlace (s .operand))
       go (empties o t f) = absurd (false≢true (ap markOf (sym (emptied ls (s .operand))) ∙ (rw o at e)))
       go (copies o t f) = (localPlace (s .operand), inLocal (s .operand) h (rw o at e), rw (moves-own s h, o) (here refl))
-      go (fills o t f b) =
+      go (fills o t f c b) =
           (operandPlace 0, onOperand 0 (omega arith) (sym (filled-mark o b) ∙ e), rw (moves-taken s 0 (omega arith), o, lt-ltb (s .operand) 16 h) (here refl))
-      go (leaves p q r) = (localPlace (s .operand), inLocal (s .operand) h (rw (p, r) at e), rw (moves-own s h, p, q, r) (here refl))
+      go (leaves p q r u) = (localPlace (s .operand), inLocal (s .operand) h (rw (p, r) at e), rw (moves-own s h, p, q, r) (here refl))
+      go (hands p q r u f) = (localPlace (s .operand), inLocal (s .operand) h (rw (p, r) at e), rw (moves-own s h, p, q, r) (here refl))
 
   local-from : (l : ℕ) → l < 16 → markOf (getD (localsAfter s ls ms) l empty) ≡ true → Source s ls ms (localPlace l)
   local-from l h e = go (ℕ-discrete l (s .operand))
@@ -278,17 +325,24 @@ module _ (s : Step) (count : ℕ) (small : count ≤ 16) (kind : Kind s count) (
       go (yes q) = rw q (own-from (rw q at h) (rw q at e))
       go (no q) = (localPlace l, inLocal l h (rw (others-stay s ls ms l q) at e), rw (moves-other s l h q) (here refl))
 
-  pushed-from : (j : ℕ) → j < length (s .fresh) → getD (marksAfter s ls ms) j false ≡ true → Source s ls ms (operandPlace j)
+  carried-from : length ms ≤ 16 → eqb (s .opcode) opStLoc ≡ false → s .carries ≡ true → (k : ℕ) → k < s .takes → getD ms k false ≡ true → Source s ls ms (operandPlace 0)
+  carried-from few r u k h e = let b = at-below ms k e in (operandPlace k, onOperand k (omega arith) e, rw (moves-taken s k h, r, u) (here refl))
+
+  pushed-from : length ms ≤ 16 → (j : ℕ) → j < length (s .fresh) → getD (marksAfter s ls ms) j false ≡ true → Source s ls ms (operandPlace j)
   unfolding marksAfter
-  pushed-from j h e =
-      ⊎-elim
-      (λ q.
-      let z : j ≡ 0 = omega (arith, ap length (q .1)) in
-      let a : markOf (getD ls (s .operand) empty) ≡ true = sym (one-mark (q .0)) ∙ (rw z at e) in
-      let b : s .operand < 16 = omega (arith, marked-there ls (s .operand) a) in
-      (localPlace (s .operand), inLocal (s .operand) b a, rw (z, moves-own s b) (q .2)))
-      (λ q. (0, bare, rw moves-bare (there (fresh-mem (s .fresh) (drop (s .takes) ms) j h (rw q at e)))))
-      (pushes-of s count ls kind)
+  pushed-from few j h e = go (pushes-of s count ls ms kind)
+    where
+      go : Pushed s ls ms → Source s ls ms (operandPlace j)
+      go (ownOne p f q) =
+          let z : j ≡ 0 = omega (arith, ap length f) in
+          let a : markOf (getD ls (s .operand) empty) ≡ true = sym (one-mark p) ∙ (rw z at e) in
+          let b : s .operand < 16 = omega (arith, marked-there ls (s .operand) a) in
+          (localPlace (s .operand), inLocal (s .operand) b a, rw (z, moves-own s b) q)
+      go (carriedOne p f r u) =
+          let z : j ≡ 0 = omega (arith, ap length f) in
+          let a = top-some (s .takes) ms (sym (one-mark p) ∙ (rw z at e)) in
+          rw z (carried-from few r u (a .0) (a .1) (a .2))
+      go (freshOnes q) = (0, bare, rw moves-bare (there (fresh-mem (s .fresh) (drop (s .takes) ms) j h (rw q at e))))
 
   left-from : length ms ≤ 16 → (j : ℕ) → getD (marksAfter s ls ms) (length (s .fresh) + j) false ≡ true → Source s ls ms (operandPlace (length (s .fresh) + j))
   left-from few j e =
@@ -302,7 +356,7 @@ module _ (s : Step) (count : ℕ) (small : count ≤ 16) (kind : Kind s count) (
   before-marked few (onOperand j h e) = go (decLt j (length (s .fresh)))
     where
       go : Dec (j < length (s .fresh)) → Source s ls ms (operandPlace j)
-      go (yes b) = pushed-from j b e
+      go (yes b) = pushed-from few j b e
       go (no b) = let z : j ≡ length (s .fresh) + (j - length (s .fresh)) = omega arith in rw z (left-from few (j - length (s .fresh)) (rw z at e))
 
 -- How the locals start.
@@ -454,6 +508,11 @@ pushed-clean (x ∷ xs) ms f h j = pushed-clean xs (x ∷ ms) (λ r. f (suc r)) 
     more zero = f 0
     more (suc j) = h j
 
+top-clean : (n : ℕ) (ms : List Bool) → ((j : ℕ) → getD ms j false ≡ false) → someTop n ms ≡ false
+unfolding someTop
+top-clean zero ms h = refl
+top-clean (suc n) ms h = rw (top-clean n ms h, h n) refl
+
 one-clean : (m : Bool) → m ≡ false → (r : ℕ) → getD (m ∷ []) r false ≡ false
 one-clean m e zero = e
 one-clean m e (suc r) = refl
@@ -465,13 +524,14 @@ after-clean s ls ms f c = record {
       (set-clean ls (s .operand) empty refl (c .locals))
       (set-clean ls (s .operand) (full (topMark ms)) (top-first ms ∙ c .operands 0) (c .locals))
       (c .locals);
-  operands = pushed-clean (pushes s ls) (drop (s .takes) ms) (new (eqb (s .opcode) opMvLoc) (eqb (s .opcode) opCpLoc)) (λ j. getD-drop (s .takes) ms j false ∙ c .operands (s .takes + j));
+  operands = pushed-clean (pushes s ls ms) (drop (s .takes) ms) (new (eqb (s .opcode) opMvLoc) (eqb (s .opcode) opCpLoc) (s .carries)) (λ j. getD-drop (s .takes) ms j false ∙ c .operands (s .takes + j));
 }
   where
-    new : (a b : Bool) (r : ℕ) → getD (cond a (markOf (getD ls (s .operand) empty) ∷ []) (cond b (markOf (getD ls (s .operand) empty) ∷ []) (s .fresh))) r false ≡ false
-    new true b = one-clean _ (c .locals (s .operand))
-    new false true = one-clean _ (c .locals (s .operand))
-    new false false = f
+    new : (a b d : Bool) (r : ℕ) → getD (cond a (markOf (getD ls (s .operand) empty) ∷ []) (cond b (markOf (getD ls (s .operand) empty) ∷ []) (cond d (someTop (s .takes) ms ∷ []) (s .fresh)))) r false ≡ false
+    new true b d = one-clean _ (c .locals (s .operand))
+    new false true d = one-clean _ (c .locals (s .operand))
+    new false false true = one-clean _ (top-clean (s .takes) ms (c .operands))
+    new false false false = f
 
 module _ (next : ℕ → List ℕ) (step : ℕ → Step) (given : ℕ → Bool) (params count : ℕ)
     (noFresh : (i r : ℕ) → getD (step i .fresh) r false ≡ false) (noneGiven : (l : ℕ) → given l ≡ false) where

@@ -19,6 +19,8 @@ pub record Regular (step : ℕ → Step) : Type 0 where
   pub moving : (i : ℕ) → step i .opcode ≡ opMvLoc → (step i .takes ≡ 0) × (step i .fresh ≡ false ∷ [])
   pub copying : (i : ℕ) → step i .opcode ≡ opCpLoc → (step i .takes ≡ 0) × (step i .fresh ≡ false ∷ [])
   pub storing : (i : ℕ) → step i .opcode ≡ opStLoc → (step i .takes ≡ 1) × (step i .fresh ≡ [])
+  -- one that carries pushes one operand
+  pub carrying : (i : ℕ) → step i .carries ≡ true → step i .fresh ≡ false ∷ []
 
 -- what the operands pass gives: no walk arrives with more than 16 operands
 pub record Shallow (next : ℕ → List ℕ) (step : ℕ → Step) (start : List Slot) : Type 0 where

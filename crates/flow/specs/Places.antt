@@ -78,7 +78,8 @@ markMoves s x =
     (x ∷ []))))
     (x ∷ []))
     (cond (ltb (x - 17) (s .takes))
-    (cond (eqb (s .opcode) opStLoc && ltb (s .operand) 16) (localPlace (s .operand) ∷ []) [])
+    (cond (eqb (s .opcode) opStLoc && ltb (s .operand) 16) (localPlace (s .operand) ∷ [])
+    (cond (s .carries) (operandPlace 0 ∷ []) []))
     ((x - s .takes + length (s .fresh)) ∷ [])))
 
 unfoldable pub placeMoves : (ℕ → Step) → ℕ → ℕ → List ℕ

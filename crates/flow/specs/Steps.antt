@@ -29,3 +29,5 @@ pub record Step : Type 0 where
   pub operand : ℕ
   pub takes : ℕ
   pub fresh : List Bool
+  -- whether the one operand that it pushes is marked where one of those that it takes is
+  pub carries : Bool

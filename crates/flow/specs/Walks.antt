@@ -1,7 +1,7 @@
 -- Walks ("paths" in the field): document 01, "Judging". A walk starts at a procedure's first instruction and takes each branch either way; it goes on past
 -- faulty rows. Parameters start full, other locals empty. Marked is a reference made by BorrowFld of a guarded field, and its copies through locals.
 use Prim.Native.Nat.{ℕ, zero, suc, _+_}
-use mathlib.Core.Bool.{Bool, true, false, cond}
+use mathlib.Core.Bool.{Bool, true, false, cond, _||_}
 use mathlib.Core.List.{List, [], _∷_}
 use lib.Dec.{eqb, ltb}
 use lib.ListN.{getD, set, drop}
@@ -36,16 +36,22 @@ localsAfter s ls ms =
     (cond (eqb (s .opcode) opStLoc) (set ls (s .operand) (full (topMark ms)))
     ls)
 
--- the marks of what an instruction pushes: MvLoc and CpLoc push their local's
-unfoldable pub pushes : Step → List Slot → List Bool
-pushes s ls =
+-- whether some one of the first n operands is marked
+unfoldable pub someTop : ℕ → List Bool → Bool
+someTop zero ms = false
+someTop (suc n) ms = someTop n ms || getD ms n false
+
+-- the marks of what an instruction pushes: MvLoc and CpLoc push their local's; one that carries pushes what it takes
+unfoldable pub pushes : Step → List Slot → List Bool → List Bool
+pushes s ls ms =
     cond (eqb (s .opcode) opMvLoc) (markOf (getD ls (s .operand) empty) ∷ [])
     (cond (eqb (s .opcode) opCpLoc) (markOf (getD ls (s .operand) empty) ∷ [])
-    (s .fresh))
+    (cond (s .carries) (someTop (s .takes) ms ∷ [])
+    (s .fresh)))
 
 -- the operands' marks after an instruction, the top first
 unfoldable pub marksAfter : Step → List Slot → List Bool → List Bool
-marksAfter s ls ms = pushedOn (pushes s ls) (drop (s .takes) ms)
+marksAfter s ls ms = pushedOn (pushes s ls ms) (drop (s .takes) ms)
 
 -- a walk of k instructions that arrives at instruction i with these locals and these operands' marks
 pub data Walk (next : ℕ → List ℕ) (step : ℕ → Step) (start : List Slot) : ℕ → ℕ → List Slot → List Bool → Type 0 where

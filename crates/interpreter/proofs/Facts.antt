@@ -12,9 +12,8 @@ use Rattle.table.specs.declared.index.ProcedureEntry.{ProcedureEntry}
 use Rattle.table.specs.declared.index.TypeEntry.{TypeEntry}
 use Rattle.table.specs.Index.{indexOf}
 use Rattle.table.specs.Rows.{rowAt}
-use Rattle.program.specs.Program.{number, typeIn, procedureIn, fieldCount, fieldKinds, localCount, localKind, codeOf, kindsOf, parameterKinds, parametersEnd, resultKinds}
+use Rattle.program.specs.Program.{number, typeIn, procedureIn, fieldCount, fieldKinds, localCount, localKind, codeOf, kindsOf, parameterKinds, parametersEnd, resultKinds, parameterCount}
 use Rattle.kinds.specs.Effects.{effects, noEffect}
-use Rattle.locals.specs.Locals.{parameterCount}
 use Rattle.steps.proofs.Laws.{length-kinds}
 use Rattle.judged.specs.Judged.{Judged}
 use Rattle.rules.specs.Machine.{Value, Cell, Entry, Frame, frame}

@@ -12,7 +12,8 @@ use Rattle.table.specs.Rows.{rowCount}
 use Rattle.program.specs.Program.{procedureIn, localCount, codeOf, resultKinds, fieldKinds, typeIn}
 use Rattle.flow.specs.Walks.{Slot}
 use Rattle.operands.specs.Flow.{onto}
-use Rattle.steps.specs.Steps.{nothingGiven}
+use Rattle.leaks.specs.Leaks.{guardedMarks}
+use Rattle.walks.proofs.Regular.{guarded-plain}
 use Rattle.walks.proofs.Depth.{length-onto, good-same, deep}
 use Rattle.judged.specs.Judged.{Judged, localKinds}
 use Rattle.rules.specs.Machine.{Value, Cell, gone, here, Entry, Frame, frame, State as RuleState, state}
@@ -68,7 +69,7 @@ module _ (t : List ℕ) (J : Judged t (indexOf t)) {T W : List ℕ} where
   pub low-gap : {to : ℕ} {gap : List ℕ} {id p : ℕ} {vs : List Value} {os : List (Option Value)} → FrameOk t (indexOf t) T W to gap id p vs os → length vs + length gap ≤ 16
   low-gap {gap = gap} {p = p} F =
       let own = procedureIn (indexOf t) p in
-      let d = deep t (indexOf t) nothingGiven own _ (J .procedure p (F .there) .some-code) (λ j h. J .instruction p j (F .there) h .flow) (F .walk) in
+      let d = deep t (indexOf t) (guardedMarks t) (guarded-plain t) own _ (J .procedure p (F .there) .some-code) (λ j h. J .instruction p j (F .there) h .flow) (F .walk) in
       omega (arith, has-length (F .has), ap length (good-same (sym (F .kinds) ∙ d .before)), length-onto gap (F .rest), d .depth, d .bounded)
 
   frame-fits : {R D : List ℕ} {to i : ℕ} {gap : List ℕ} {id p : ℕ} {ops ls : List Operand} {vs : List Value} {os : List (Option Value)}

@@ -16,8 +16,8 @@ use Rattle.program.specs.Program.{number, isReference, typeIn, procedureIn, loc
 use Rattle.kinds.specs.Effects.{Effect, effects, noEffect}
 use Rattle.operands.specs.Flow.{onto, effectIn}
 use Rattle.locals.specs.Locals.{needsFull}
-use Rattle.steps.specs.Steps.{nothingGiven}
-use Rattle.walks.proofs.Regular.{step-takes}
+use Rattle.leaks.specs.Leaks.{guardedMarks}
+use Rattle.walks.proofs.Regular.{guarded-plain, step-takes}
 use Rattle.walks.proofs.Depth.{length-onto, good-same, deep}
 use Rattle.judged.specs.Judged.{Instruction, Judged}
 use Rattle.rules.specs.Machine.{Value, obj, Cell, Entry, Frame, frame, state, Outcome}
@@ -100,7 +100,7 @@ module _ (t : List ℕ) (judged : Judged t (indexOf t)) where
         let own = procedureIn (indexOf t) p in
         let kinds : F .rest ≡ onto (effectIn t (indexOf t) own top i .takes) (instr .flow .rest) = good-same (sym (F .kinds) ∙ instr .flow .before) in
         let lie = length-onto (effectIn t (indexOf t) own top i .takes) (instr .flow .rest) in
-        omega (arith, has-length (F .has), ap length kinds, lie, step-takes t (indexOf t) nothingGiven own top i, step-takes t (indexOf t) nothingGiven own number i)
+        omega (arith, has-length (F .has), ap length kinds, lie, step-takes t (indexOf t) (guardedMarks t) own top i, step-takes t (indexOf t) (guardedMarks t) own number i)
 
     -- where it gives an operand there is room for it
     pub room : (a : ℕ) → rowAt (codeOf t (procedureIn (indexOf t) p)) i .a ≡ a
@@ -118,7 +118,7 @@ module _ (t : List ℕ) (judged : Judged t (indexOf t)) where
     unfolding onto
     low =
         let own = procedureIn (indexOf t) p in
-        let d = deep t (indexOf t) nothingGiven own _ (judged .procedure p (F .there) .some-code) (λ j h. judged .instruction p j (F .there) h .flow) (F .walk) in
+        let d = deep t (indexOf t) (guardedMarks t) (guarded-plain t) own _ (judged .procedure p (F .there) .some-code) (λ j h. judged .instruction p j (F .there) h .flow) (F .walk) in
         omega (arith, has-length (F .has), ap length (good-same (sym (F .kinds) ∙ d .before)), d .depth, d .bounded)
 
     -- the kind of a local that BorrowLoc finds full

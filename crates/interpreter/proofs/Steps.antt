@@ -28,7 +28,8 @@ use Rattle.machine.proofs.Memory.{headIn, room-of}
 use Rattle.frame.specs.Turning.{Turning, ends, broken}
 use Rattle.step.specs.Step.{turns, turnOf}
 use Rattle.frame.specs.Meaning.{outcomeOf, doing, Stands, Kept}
-use Rattle.step.proofs.Shapes.{Each, _▸_, each-listed, Shape, turn-shape}
+use Rattle.laws.proofs.Cases.{Each, _▸_, each-listed}
+use Rattle.step.proofs.Shapes.{Shape, turn-shape}
 use Rattle.frame.proofs.StackArms.{pop-is, pop-kept, const-is, const-kept, move-is, move-kept, copy-is, copy-kept, store-is, store-kept, borrow-is, borrow-kept}
 use Rattle.references.proofs.TargetsArms.{read-is, read-kept, write-is, write-kept, borrow-field-is, borrow-field-kept}
 use Rattle.records.proofs.PackingArms.{pack-is, pack-kept, unpack-is, unpack-kept}

@@ -16,7 +16,7 @@ use Rattle.table.specs.Format.{instructionKind, opMvLoc, opBorrowLoc, opBorrowF
 use Rattle.table.specs.Rows.{rowCount, rowAt, rowFrom, kindAt}
 use Rattle.table.specs.Index.{indexOf, procedureAt, codeStart, codeEnd}
 use Rattle.table.proofs.Laws.{row-inside, procedure-code}
-use Rattle.program.specs.Program.{typeIn, fieldCount, codeOf, codeLength}
+use Rattle.program.specs.Program.{typeIn, fieldCount, codeOf, codeLength, instructionIn}
 use Rattle.reach.specs.Reach.{Mem, here, there}
 use Rattle.names.specs.Names.{nothing, localNumber, typeNumber, names, namesOf}
 use Rattle.names.specs.Exist.{Exists}
@@ -144,7 +144,7 @@ module _ (t : List ℕ) (a : AcceptedTable t) (q : ℕ) (known : q < indexOf t .
   -- Instruction i of it.
   module _ (i : ℕ) (h : i < rowCount (codeOf t (own t q))) where
     -- its row is one of the table
-    row-is : rowAt (codeOf t (own t q)) i ≡ rowAt t (start + i)
+    row-is : instructionIn t (indexOf t) q i ≡ rowAt t (start + i)
     unfolding start
     row-is = code-row t q known (few t a q known) i h
 
@@ -158,23 +158,23 @@ module _ (t : List ℕ) (a : AcceptedTable t) (q : ℕ) (known : q < indexOf t .
     kind-is = sym (procedure-code t (rowOf t q known (few t a q known)) {j = start + i} (omega arith) lies)
 
     -- what it names exists
-    named : Exists (indexOf t) (own t q) (rowAt (codeOf t (own t q)) i .b) (getD names (rowAt (codeOf t (own t q)) i .a) nothing)
+    named : Exists (indexOf t) (own t q) (instructionIn t (indexOf t) q i .b) (getD names (instructionIn t (indexOf t) q i .a) nothing)
     named = code-named t q known (few t a q known) (rowCount t) (a .byNames) i h
 
     -- its opcode
-    opcode-is : rowAt (codeOf t (own t q)) i .a ≤ opOp
+    opcode-is : instructionIn t (indexOf t) q i .a ≤ opOp
     opcode-is = rw row-is (omega (arith, row-opcode t (rows-fine t (rowCount t) (a .byRows)) (start + i) (omega (arith, lies, stop-inside)) kind-is))
 
     -- its constant
-    constant-is : Bytes t → rowAt (codeOf t (own t q)) i .d < 2 ^ 64
+    constant-is : Bytes t → instructionIn t (indexOf t) q i .d < 2 ^ 64
     constant-is bytes = rw row-is (constant-low t bytes (start + i) (omega (arith, lies, stop-inside)))
 
     -- the operand of Op
-    operation-is : rowAt (codeOf t (own t q)) i .a ≡ opOp → rowAt (codeOf t (own t q)) i .b ≤ 3
+    operation-is : instructionIn t (indexOf t) q i .a ≡ opOp → instructionIn t (indexOf t) q i .b ≤ 3
     operation-is e = rw row-is (row-op t (rows-fine t (rowCount t) (a .byRows)) (start + i) (omega (arith, lies, stop-inside)) kind-is (rw row-is at e))
 
     -- what is neither Ret nor Branch is not the last
-    not-last : (rowAt (codeOf t (own t q)) i .a ≡ opRet → ⊥) → (rowAt (codeOf t (own t q)) i .a ≡ opBranch → ⊥) → i + 1 < rowCount (codeOf t (own t q))
+    not-last : (instructionIn t (indexOf t) q i .a ≡ opRet → ⊥) → (instructionIn t (indexOf t) q i .a ≡ opBranch → ⊥) → i + 1 < rowCount (codeOf t (own t q))
     not-last r b = go (decLt (i + 1) (rowCount (codeOf t (own t q))))
       where
         go : Dec (i + 1 < rowCount (codeOf t (own t q))) → i + 1 < rowCount (codeOf t (own t q))
@@ -184,29 +184,29 @@ module _ (t : List ℕ) (a : AcceptedTable t) (q : ℕ) (known : q < indexOf t .
             absurd (⊎-elim (λ x. r (rw row-is (rw e at x))) (λ x. b (rw row-is (rw e at x))) last)
 
     -- it goes on at the next instruction
-    falls-on : (rowAt (codeOf t (own t q)) i .a ≡ opRet → ⊥) → (rowAt (codeOf t (own t q)) i .a ≡ opBranch → ⊥) → Mem (i + 1) (nexts (codeOf t (own t q)) i)
+    falls-on : (instructionIn t (indexOf t) q i .a ≡ opRet → ⊥) → (instructionIn t (indexOf t) q i .a ≡ opBranch → ⊥) → Mem (i + 1) (nexts (codeOf t (own t q)) i)
     unfolding nexts
-    falls-on r b = below-mem _ _ (next-falls (rowAt (codeOf t (own t q)) i) i r b) (not-last r b)
+    falls-on r b = below-mem _ _ (next-falls (instructionIn t (indexOf t) q i) i r b) (not-last r b)
 
     -- a target is there
-    target-there : (rowAt (codeOf t (own t q)) i .a ≡ opBranch) ⊎ (rowAt (codeOf t (own t q)) i .a ≡ opBranchCond) → rowAt (codeOf t (own t q)) i .b < rowCount (codeOf t (own t q))
+    target-there : (instructionIn t (indexOf t) q i .a ≡ opBranch) ⊎ (instructionIn t (indexOf t) q i .a ≡ opBranchCond) → instructionIn t (indexOf t) q i .b < rowCount (codeOf t (own t q))
     unfolding names
     target-there (inl e) = rw (← length-is) (rw e at named)
     target-there (inr e) = rw (← length-is) (rw e at named)
 
     -- it goes on there
-    jumps-on : (rowAt (codeOf t (own t q)) i .a ≡ opBranch) ⊎ (rowAt (codeOf t (own t q)) i .a ≡ opBranchCond) → Mem (rowAt (codeOf t (own t q)) i .b) (nexts (codeOf t (own t q)) i)
+    jumps-on : (instructionIn t (indexOf t) q i .a ≡ opBranch) ⊎ (instructionIn t (indexOf t) q i .a ≡ opBranchCond) → Mem (instructionIn t (indexOf t) q i .b) (nexts (codeOf t (own t q)) i)
     unfolding nexts
-    jumps-on e = below-mem _ _ (next-jumps (rowAt (codeOf t (own t q)) i) i e) (target-there e)
+    jumps-on e = below-mem _ _ (next-jumps (instructionIn t (indexOf t) q i) i e) (target-there e)
 
     -- a field that it names
-    field-there : rowAt (codeOf t (own t q)) i .a ≡ opBorrowFld
-        → (rowAt (codeOf t (own t q)) i .b / 8 < indexOf t .types) × (rowAt (codeOf t (own t q)) i .b % 8 < fieldCount (typeIn (indexOf t) (rowAt (codeOf t (own t q)) i .b / 8)))
+    field-there : instructionIn t (indexOf t) q i .a ≡ opBorrowFld
+        → (instructionIn t (indexOf t) q i .b / 8 < indexOf t .types) × (instructionIn t (indexOf t) q i .b % 8 < fieldCount (typeIn (indexOf t) (instructionIn t (indexOf t) q i .b / 8)))
     unfolding names
     field-there e = rw e at named
 
     -- a procedure that it calls
-    procedure-called : rowAt (codeOf t (own t q)) i .a ≡ opCall → rowAt (codeOf t (own t q)) i .b < indexOf t .procedures
+    procedure-called : instructionIn t (indexOf t) q i .a ≡ opCall → instructionIn t (indexOf t) q i .b < indexOf t .procedures
     unfolding names
     procedure-called e = rw e at named
 

@@ -13,10 +13,9 @@ use Rattle.table.specs.declared.index.ProcedureEntry.{ProcedureEntry}
 use Rattle.table.specs.Format.{procedureKind}
 use Rattle.table.specs.Rows.{rowCount, kindAt, isKind}
 use Rattle.table.specs.Index.{indexOf, indexedRows, procedureAt, resultsStart, codeStart}
-use Rattle.program.specs.Program.{kindsOf, isParameter, localCount, localKind, parametersEnd, parameterKinds, resultKinds, procedureIn}
+use Rattle.program.specs.Program.{kindsOf, isParameter, localCount, localKind, parametersEnd, parameterKinds, resultKinds, procedureIn, parameterCount}
 use Rattle.program.proofs.Laws.{procedure-there}
 use Rattle.steps.proofs.Laws.{length-kinds}
-use Rattle.locals.specs.Locals.{parameterCount}
 use Rattle.judging.specs.Judging.{AcceptedTable}
 use Rattle.judging.proofs.Sizes.{rows-fine, nth-hit, sized}
 use Rattle.walks.proofs.Rows.{own, code-some}

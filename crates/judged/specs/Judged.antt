@@ -1,24 +1,22 @@
 -- What an accepted table gives a proof about running, for each procedure, instruction and type.
 use Prim.Native.Nat.{ℕ, _+_, _^_, _/_, _%_, _<_, _≤_}
 use mathlib.Core.Path.{_≡_}
-use mathlib.Core.Bool.{Bool, true, false}
-use mathlib.Core.List.{List, [], _∷_, _++_}
+use mathlib.Core.Bool.{Bool, false}
+use mathlib.Core.List.{List, [], _++_}
 use mathlib.Core.Logic.{_⊎_}
-use mathlib.Core.Option.{Option, some}
-use lib.Dec.{eqb}
+use mathlib.Core.Option.{some}
 use lib.ListN.{length, getD, getElem? as nth}
 use Rattle.table.specs.declared.index.Index.{Index}
 use Rattle.table.specs.declared.index.ProcedureEntry.{ProcedureEntry}
 use Rattle.table.specs.Format.{maxTypes, maxFields, maxProcedures, maxLocals, maxResults, maxInstructions, opMvLoc, opBorrowLoc, opBorrowFld, opPack, opExists, opCall, opRet, opBranch, opBranchCond, opOp}
 use Rattle.table.specs.Rows.{rowCount, rowAt}
-use Rattle.program.specs.Program.{recordOf, isReference, rowKind, kindsOf, typeIn, procedureIn, fieldCount, fieldKinds, fieldRow, localCount, localKind, parametersEnd, parameterKinds, resultKinds, codeOf}
+use Rattle.program.specs.Program.{recordOf, isReference, rowKind, kindsOf, typeIn, procedureIn, fieldCount, fieldKinds, fieldRow, localCount, localKind, parametersEnd, parameterKinds, resultKinds, codeOf, parameterCount, instructionIn}
 use Rattle.reach.specs.Reach.{Mem}
 use Rattle.kinds.specs.Kinds.{good}
 use Rattle.operands.specs.Operands.{kindsBefore}
 use Rattle.operands.specs.Flow.{onto, effectIn, Flow}
 use Rattle.flow.specs.Steps.{nexts}
 use Rattle.flow.specs.Walks.{Slot}
-use Rattle.locals.specs.Locals.{parameterCount}
 use Rattle.judging.specs.Judging.{AcceptedTable}
 use Rattle.walks.specs.Checked.{WalkOf, Checked}
 
@@ -48,27 +46,27 @@ pub record Procedure (t : List ℕ) (ix : Index) (p : ℕ) : Type 0 where
 
 -- instruction i of procedure p
 pub record Instruction (t : List ℕ) (ix : Index) (p i : ℕ) : Type 0 where
-  pub opcode : rowAt (codeOf t (procedureIn ix p)) i .a ≤ opOp
-  pub constant : rowAt (codeOf t (procedureIn ix p)) i .d < 2 ^ 64
+  pub opcode : instructionIn t ix p i .a ≤ opOp
+  pub constant : instructionIn t ix p i .d < 2 ^ 64
   -- what it takes and pushes
   pub flow : Flow t ix (procedureIn ix p) i
   -- where it goes on a walk goes on: to the next instruction, or to its target
-  pub falls : (rowAt (codeOf t (procedureIn ix p)) i .a ≡ opRet → ⊥) → (rowAt (codeOf t (procedureIn ix p)) i .a ≡ opBranch → ⊥) → Mem (i + 1) (nexts (codeOf t (procedureIn ix p)) i)
-  pub jumps : (rowAt (codeOf t (procedureIn ix p)) i .a ≡ opBranch) ⊎ (rowAt (codeOf t (procedureIn ix p)) i .a ≡ opBranchCond)
-      → Mem (rowAt (codeOf t (procedureIn ix p)) i .b) (nexts (codeOf t (procedureIn ix p)) i)
+  pub falls : (instructionIn t ix p i .a ≡ opRet → ⊥) → (instructionIn t ix p i .a ≡ opBranch → ⊥) → Mem (i + 1) (nexts (codeOf t (procedureIn ix p)) i)
+  pub jumps : (instructionIn t ix p i .a ≡ opBranch) ⊎ (instructionIn t ix p i .a ≡ opBranchCond)
+      → Mem (instructionIn t ix p i .b) (nexts (codeOf t (procedureIn ix p)) i)
   -- and there the kinds before are those after this one
   pub inside : (j : ℕ) → Mem j (nexts (codeOf t (procedureIn ix p)) i) → j < rowCount (codeOf t (procedureIn ix p))
   pub follow : (j : ℕ) → Mem j (nexts (codeOf t (procedureIn ix p)) i)
       → kindsBefore t ix (procedureIn ix p) j ≡ good (onto (effectIn t ix (procedureIn ix p) (flow .top) i .gives) (flow .rest))
   -- what a walk that arrives finds
-  pub checked : {k : ℕ} {ls : List Slot} {ms : List Bool} → WalkOf t (procedureIn ix p) k i ls ms → Checked t (procedureIn ix p) i ls ms
+  pub checked : {k : ℕ} {ls : List Slot} {ms : List Bool} → WalkOf t p k i ls ms → Checked t p i ls ms
   -- what it names is there
-  pub local-named : opMvLoc ≤ rowAt (codeOf t (procedureIn ix p)) i .a → rowAt (codeOf t (procedureIn ix p)) i .a ≤ opBorrowLoc → rowAt (codeOf t (procedureIn ix p)) i .b < localCount (procedureIn ix p)
-  pub field-named : rowAt (codeOf t (procedureIn ix p)) i .a ≡ opBorrowFld
-      → (rowAt (codeOf t (procedureIn ix p)) i .b / 8 < ix .types) × (rowAt (codeOf t (procedureIn ix p)) i .b % 8 < fieldCount (typeIn ix (rowAt (codeOf t (procedureIn ix p)) i .b / 8)))
-  pub type-named : opPack ≤ rowAt (codeOf t (procedureIn ix p)) i .a → rowAt (codeOf t (procedureIn ix p)) i .a ≤ opExists → rowAt (codeOf t (procedureIn ix p)) i .b < ix .types
-  pub called : rowAt (codeOf t (procedureIn ix p)) i .a ≡ opCall → rowAt (codeOf t (procedureIn ix p)) i .b < ix .procedures
-  pub calculates : rowAt (codeOf t (procedureIn ix p)) i .a ≡ opOp → rowAt (codeOf t (procedureIn ix p)) i .b ≤ 3
+  pub local-named : opMvLoc ≤ instructionIn t ix p i .a → instructionIn t ix p i .a ≤ opBorrowLoc → instructionIn t ix p i .b < localCount (procedureIn ix p)
+  pub field-named : instructionIn t ix p i .a ≡ opBorrowFld
+      → (instructionIn t ix p i .b / 8 < ix .types) × (instructionIn t ix p i .b % 8 < fieldCount (typeIn ix (instructionIn t ix p i .b / 8)))
+  pub type-named : opPack ≤ instructionIn t ix p i .a → instructionIn t ix p i .a ≤ opExists → instructionIn t ix p i .b < ix .types
+  pub called : instructionIn t ix p i .a ≡ opCall → instructionIn t ix p i .b < ix .procedures
+  pub calculates : instructionIn t ix p i .a ≡ opOp → instructionIn t ix p i .b ≤ 3
 
 -- type y
 pub record Declared (t : List ℕ) (ix : Index) (y : ℕ) : Type 0 where

@@ -36,7 +36,7 @@ length-rows t n e = go (eqb (length t) 0 || not (eqb (length t % 16) 0) || ltb 3
 pub over-rows : (f : ℕ → ℕ) (k n : ℕ) → passOver f k ≡ Accepted n → passOver f k ≡ Accepted k
 over-rows f k n e = clean-if Accepted Refused f 0 k (λ j lo hi. all-fine Accepted Refused f (λ n k i q. refused-accepted q) n 0 k e j lo hi) ∙ ap Accepted (zero-add k)
 
-pub code-rows : (fault : ProcedureEntry → ℕ → ℕ) (ix : Index) (t : List ℕ) (n : ℕ) → codePass fault ix t ≡ Accepted n → codePass fault ix t ≡ Accepted (rowCount t)
+pub code-rows : (fault : ℕ → ProcedureEntry → ℕ → ℕ) (ix : Index) (t : List ℕ) (n : ℕ) → codePass fault ix t ≡ Accepted n → codePass fault ix t ≡ Accepted (rowCount t)
 code-rows fault ix t n e = pass-clean fault ix t (λ q i a b c. pass-fine fault ix t n e q a b i c)
 
 -- the first of two in order that accept together

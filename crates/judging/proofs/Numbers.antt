@@ -29,8 +29,8 @@ use Rattle.kinds.specs.Kinds.{Kinds, good, bad, failed, taken, pushed, takenAll
 use Rattle.kinds.specs.Effects.{Effect, applied, kindsAfter}
 use Rattle.operands.specs.Operands.{lastOfBlock, after, kindsBefore, codeFault, operandsOf, operandsWith}
 use Rattle.locals.specs.Locals.{needsFull, leavesEmpty, leavesRecord, leavesSome, localFault, localsOf}
-use Rattle.steps.specs.Steps.{Given, nothingGiven, stepAt}
-use Rattle.leaks.specs.Leaks.{inTrusted, someMarked, leakIn, marksOf, leakFrom, leakFault, leaksOf}
+use Rattle.steps.specs.Steps.{stepAt, marksOf}
+use Rattle.leaks.specs.Leaks.{guardedMarks, inTrusted, someMarked, leakIn, leakFrom, leakFault, leaksOf}
 use Rattle.judging.specs.Judging.{judgeOf, inOrder, passes, UpToOperands}
 use Rattle.judging.proofs.Laws.{accepted-here}
 use Rattle.judging.proofs.Accepts.{length-rows, over-rows, code-rows}
@@ -57,11 +57,11 @@ over-number lo hi f w n {number} {row} e = go (clean-or-stops Accepted Refused f
     go (inl c) = absurd (refused-accepted (sym e ∙ c))
     go (inr s) = rw (refused-number (sym (s .told) ∙ e)) at (in-range lo hi (f (s .at)) (w (s .at)) (s .faulty))
 
-code-number : (lo hi : ℕ) (fault : ProcedureEntry → ℕ → ℕ) → ((p : ProcedureEntry) (i : ℕ) → Within lo hi (fault p i)) → (ix : Index) (t : List ℕ) {number row : ℕ} → codePass fault ix t ≡ Refused number row
+code-number : (lo hi : ℕ) (fault : ℕ → ProcedureEntry → ℕ → ℕ) → ((q : ℕ) (p : ProcedureEntry) (i : ℕ) → Within lo hi (fault q p i)) → (ix : Index) (t : List ℕ) {number row : ℕ} → codePass fault ix t ≡ Refused number row
     → (lo ≤ number) × (number ≤ hi)
 code-number lo hi fault w ix t e =
     let f = pass-first fault t ix e in
-    rw (f .here .number-is) at (in-range lo hi _ (w _ _) (f .here .faulty))
+    rw (f .here .number-is) at (in-range lo hi _ (w _ _ _) (f .here .faulty))
 
 -- length
 pub length-number : (t : List ℕ) {number row : ℕ} → rows.lengthOf t ≡ Refused number row → number ≡ 1
@@ -163,7 +163,7 @@ module _ (t : List ℕ) (ix : Index) (p : ProcedureEntry) where
 
 pub operands-number : (t : List ℕ) {number row : ℕ} → operandsOf t ≡ Refused number row → (7 ≤ number) × (number ≤ 10)
 unfolding operandsOf operandsWith
-operands-number t = code-number 7 10 _ (λ p i. code-low t (indexOf t) p i) (indexOf t) t
+operands-number t = code-number 7 10 _ (λ q p i. code-low t (indexOf t) p i) (indexOf t) t
 
 -- locals
 local-low : (t : List ℕ) (p : ProcedureEntry) (i : ℕ) → Within 11 12 (localFault t p i)
@@ -175,14 +175,14 @@ local-low t p i =
 
 pub locals-number : (t : List ℕ) {number row : ℕ} → localsOf t ≡ Refused number row → (11 ≤ number) × (number ≤ 12)
 unfolding localsOf
-locals-number t = code-number 11 12 (localFault t) (local-low t) (indexOf t) t
+locals-number t = code-number 11 12 _ (λ q. local-low t) (indexOf t) t
 
 -- leaks
-leak-low : (t : List ℕ) (ix : Index) (given : Given) (p : ProcedureEntry) (i : ℕ) → Within 13 14 (leakFault t ix given p i)
+leak-low : (t : List ℕ) (ix : Index) (q : ℕ) (p : ProcedureEntry) (i : ℕ) → Within 13 14 (leakFault t ix q p i)
 unfolding leakFault leakFrom leakIn
-leak-low t ix given p i =
-    let s = stepAt t ix given p i in
-    let marked = someMarked (marksOf t ix given p) i (s .takes) in
+leak-low t ix q p i =
+    let s = stepAt t ix (guardedMarks t) p i in
+    let marked = someMarked (marksOf t ix (guardedMarks t) q p) i (s .takes) in
     when (inTrusted t ix p) _ (one (eqb (s .opcode) opCall && marked) 13 14 13 _ (omega arith) (one (eqb (s .opcode) opRet && marked) 13 14 14 0 (omega arith) (inl refl)))
   where
     when : (b : Bool) (f : ℕ) → Within 13 14 f → Within 13 14 (cond b f 0)
@@ -191,7 +191,7 @@ leak-low t ix given p i =
 
 pub leaks-number : (t : List ℕ) {number row : ℕ} → leaksOf t ≡ Refused number row → (13 ≤ number) × (number ≤ 14)
 unfolding leaksOf
-leaks-number t = code-number 13 14 _ (leak-low t (indexOf t) nothingGiven) (indexOf t) t
+leaks-number t = code-number 13 14 _ (leak-low t (indexOf t)) (indexOf t) t
 
 -- a pass that does not refuse so accepts, and a later one refuses so
 passed : (pass : List ℕ → Verdict) (later : List (List ℕ → Verdict)) (t : List ℕ) {number row : ℕ} → inOrder (pass ∷ later) t ≡ Refused number row → (pass t ≡ Refused number row → ⊥)

@@ -30,7 +30,6 @@ use Rattle.program.proofs.Laws.{procedure-there, limits-hold, limited-in}
 use Rattle.program.proofs.Passes.{pass-same}
 use Rattle.locals.specs.Locals.{localFault, localsOf}
 use Rattle.locals.specs.Within.{localsWithin}
-use Rattle.steps.specs.Steps.{nothingGiven}
 use Rattle.leaks.specs.Leaks.{leakFault, leaksOf}
 use Rattle.leaks.specs.Within.{leaksWithin}
 
@@ -213,13 +212,13 @@ module _ (t : List ℕ) (n : ℕ) (e : rowsOf t ≡ Accepted n) where
   pub none-over : (q : ℕ) → q < indexOf t .procedures → overLimits t (procedureIn (indexOf t) q) ≡ false
   none-over q h = let small = sized t n e in limits-hold t (procedureIn (indexOf t) q) (small .locals q h) (small .instructions q h)
 
-  pub none-passed-over : (fault : ProcedureEntry → ℕ → ℕ) → codePass (limited t fault) (indexOf t) t ≡ codePass fault (indexOf t) t
-  none-passed-over fault = pass-same (limited t fault) fault t (indexOf t) (λ q h. limited-in t (procedureIn (indexOf t) q) fault (none-over q h))
+  pub none-passed-over : (fault : ℕ → ProcedureEntry → ℕ → ℕ) → codePass (λ (q : ℕ) (p : ProcedureEntry). limited t p (fault q p)) (indexOf t) t ≡ codePass fault (indexOf t) t
+  none-passed-over fault = pass-same _ fault t (indexOf t) (λ q h. limited-in t (procedureIn (indexOf t) q) (fault q (procedureIn (indexOf t) q)) (none-over q h))
 
   pub locals-within : localsWithin (indexOf t) t ≡ localsOf t
   unfolding localsWithin localsOf
-  locals-within = none-passed-over (localFault t)
+  locals-within = none-passed-over (λ (q : ℕ). localFault t)
 
   pub leaks-within : leaksWithin (indexOf t) t ≡ leaksOf t
   unfolding leaksWithin leaksOf
-  leaks-within = none-passed-over (leakFault t (indexOf t) nothingGiven)
+  leaks-within = none-passed-over (leakFault t (indexOf t))

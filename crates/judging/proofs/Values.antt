@@ -62,14 +62,15 @@ then-value : (v w : Verdict) → valueOf v ≤ 2048 → valueOf w ≤ 2048 → v
 then-value (Accepted n) w h k = k
 then-value (Refused a b) w h k = h
 
-over-value : (fault : ProcedureEntry → ℕ → ℕ) (t : List ℕ) → rowCount t ≤ 2048 → (ps : List ProcedureEntry) → ((q : ℕ) → q < length ps → getD ps q noProcedure .end ≤ 2048) → valueOf (overProcedures fault t ps) ≤ 2048
+over-value : (fault : ℕ → ProcedureEntry → ℕ → ℕ) (t : List ℕ) → rowCount t ≤ 2048 → (s : ℕ) (ps : List ProcedureEntry) → ((q : ℕ) → q < length ps → getD ps q noProcedure .end ≤ 2048) → valueOf (overProcedures fault t s ps) ≤ 2048
 unfolding overProcedures
-over-value fault t r [] h = r
-over-value fault t r (p ∷ ps) h = then-value (codeVerdict (fault p) (p .code) (rowCount (codeOf t p))) (overProcedures fault t ps) (code-value (fault p) t p (h 0 (omega arith))) (over-value fault t r ps (λ q l. h (suc q) (omega arith)))
+over-value fault t r s [] h = r
+over-value fault t r s (p ∷ ps) h =
+    then-value (codeVerdict (fault s p) (p .code) (rowCount (codeOf t p))) (overProcedures fault t (s + 1) ps) (code-value (fault s p) t p (h 0 (omega arith))) (over-value fault t r (s + 1) ps (λ q l. h (suc q) (omega arith)))
 
-pass-value : (fault : ProcedureEntry → ℕ → ℕ) (t : List ℕ) → rowCount t ≤ 2048 → valueOf (codePass fault (indexOf t) t) ≤ 2048
+pass-value : (fault : ℕ → ProcedureEntry → ℕ → ℕ) (t : List ℕ) → rowCount t ≤ 2048 → valueOf (codePass fault (indexOf t) t) ≤ 2048
 unfolding codePass indexOf procedureIn
-pass-value fault t r = over-value fault t r (take (indexOf t .procedures) (indexOf t .«procedure_entries»)) ends
+pass-value fault t r = over-value fault t r 0 (take (indexOf t .procedures) (indexOf t .«procedure_entries»)) ends
   where
     ends : (q : ℕ) → q < length (take (indexOf t .procedures) (indexOf t .«procedure_entries»)) → getD (take (indexOf t .procedures) (indexOf t .«procedure_entries»)) q noProcedure .end ≤ 2048
     ends q h =

@@ -14,7 +14,7 @@ use Rattle.laws.specs.Lists.{none}
 use Rattle.table.specs.declared.Row.{Row}
 use Rattle.table.specs.declared.index.TypeEntry.{TypeEntry}
 use Rattle.table.specs.declared.index.ProcedureEntry.{ProcedureEntry}
-use Rattle.table.specs.Format.{maxOperands}
+use Rattle.table.specs.Format.{maxOperands, pastOpcodes}
 use Rattle.table.specs.Rows.{rowAt}
 use Rattle.program.specs.Program.{rowKind, kindsFrom, kindsOf}
 use Rattle.kinds.specs.Kinds.{Kinds, good, bad, kindsOr, failed, taken, pushed, topOf, faultAfter, topFirst}
@@ -98,18 +98,6 @@ module _ (t : List ℕ) (own : ProcedureEntry) (named : TypeEntry) (callee : Pro
   unfolding kindsAfter effectOf
   listed n e = ap (λ (a : ℕ). applied (getD (effects t own named callee (row .b) (topOf s)) a noEffect) s) (sym e)
 
-  pub unlisted : 20 ≤ row .a → failed 7 s ≡ kindsAfter t own named callee row s
+  pub unlisted : pastOpcodes ≤ row .a → failed 7 s ≡ kindsAfter t own named callee row s
   unfolding kindsAfter effectOf applied effects
   unlisted h = ap (λ (e : Effect). applied e s) (sym (List·getD-eq-default (effects t own named callee (row .b) (topOf s)) noEffect h))
-
--- a number that is none of 0 to n - 1, as the last arm of a `match` has it
-abbrev pub Not : ℕ → ℕ → Type 0
-Not x zero = Unit
-Not x (suc n) = Not x n × (x ≡ n → ⊥)
-
-pub above : (n x : ℕ) → Not x n → n ≤ x
-above zero x h = omega arith
-above (suc n) x h = up n x (above n x (h .0)) (h .1)
-  where
-    up : (n x : ℕ) → n ≤ x → (x ≡ n → ⊥) → suc n ≤ x
-    up n x a b = omega arith

@@ -7,6 +7,7 @@ use Rattle.table.specs.declared.Row.{Row}
 use Rattle.table.specs.declared.index.TypeEntry.{TypeEntry}
 use Rattle.table.specs.declared.index.ProcedureEntry.{ProcedureEntry}
 use Rattle.table.specs.Rows.{rowAt}
+use Rattle.table.specs.Refusals.{wrongOperand}
 use Rattle.program.specs.Program.{number, numberRef, recordOf, recordRef, referenceTo, isRecord, isReference, rowKind, fieldRow, fieldKinds, localKind, parameterKinds, resultKinds}
 use Rattle.kinds.specs.Kinds.{Kinds, failed, takenAll, pushedAll, topOf}
 
@@ -55,7 +56,7 @@ effects t own named callee b top =
     ∷ effect (number ∷ number ∷ []) (number ∷ [])
     ∷ []
 
--- an opcode over 19
+-- a number that is no opcode
 abbrev pub noEffect : Effect
 noEffect = record { fit = false; takes = []; gives = [] }
 
@@ -64,7 +65,7 @@ effectOf t own named callee row top = getD (effects t own named callee (row .b) 
 
 -- the kinds after an instruction with this effect, where s are the kinds before: 7 where the local is unfit
 unfoldable pub applied : Effect → Kinds → Kinds
-applied e s = cond (e .fit) (pushedAll (e .gives) (takenAll (e .takes) s)) (failed 7 s)
+applied e s = cond (e .fit) (pushedAll (e .gives) (takenAll (e .takes) s)) (failed wrongOperand s)
 
 unfoldable pub kindsAfter : List ℕ → ProcedureEntry → TypeEntry → ProcedureEntry → Row → Kinds → Kinds
 kindsAfter t own named callee row s = applied (effectOf t own named callee row (topOf s)) s

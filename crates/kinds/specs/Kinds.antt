@@ -6,6 +6,7 @@ use lib.Dec.{eqb, ltb}
 use lib.ListN.{length, getD}
 use Rattle.laws.specs.Lists.{none}
 use Rattle.table.specs.Format.{maxOperands}
+use Rattle.table.specs.Refusals.{wrongOperand, tooManyOperands, operandsLeft, foreignName}
 use Rattle.program.specs.Program.{number}
 use Rattle.kinds.specs.declared.Stack.{Stack}
 
@@ -25,13 +26,13 @@ failed f (bad g) = bad g
 
 -- one operand of kind k is taken: 7 where it is missing or another
 unfoldable pub taken : ℕ → Kinds → Kinds
-taken k (good []) = bad 7
-taken k (good (x ∷ xs)) = cond (eqb x k) (good xs) (bad 7)
+taken k (good []) = bad wrongOperand
+taken k (good (x ∷ xs)) = cond (eqb x k) (good xs) (bad wrongOperand)
 taken k (bad f) = bad f
 
 -- one operand of kind k is pushed: 8 where there are 16 already
 unfoldable pub pushed : ℕ → Kinds → Kinds
-pushed k (good xs) = cond (ltb (length xs) maxOperands) (good (k ∷ xs)) (bad 8)
+pushed k (good xs) = cond (ltb (length xs) maxOperands) (good (k ∷ xs)) (bad tooManyOperands)
 pushed k (bad f) = bad f
 
 -- several are taken, the last of the list first, and pushed, the first of the list first
@@ -52,7 +53,7 @@ topOf (bad f) = number
 -- the number that a row earns with these kinds after it: 7 or 8; 9 where operands are left after a block's last row; 10
 unfoldable pub faultAfter : Kinds → Bool → Bool → ℕ
 faultAfter (bad f) last other = f
-faultAfter (good ks) last other = cond (last && not (none ks)) 9 (cond other 10 0)
+faultAfter (good ks) last other = cond (last && not (none ks)) operandsLeft (cond other foreignName 0)
 
 -- the first h of a list, the last of them first
 unfoldable pub topFirst : List ℕ → ℕ → List ℕ

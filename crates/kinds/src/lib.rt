@@ -14,6 +14,7 @@ use table::Row;
 use table::format;
 use table::index::ProcedureEntry;
 use table::index::TypeEntry;
+use table::refusals;
 
 // The number of the operands present, and the number of the first fault or 0. Their kinds lie in an array that is lent.
 pub struct Stack {
@@ -78,14 +79,14 @@ impl Stack {
         }
         let h = self.height;
         if h == 0 {
-            self.fault = 7;
+            self.fault = refusals::WRONG_OPERAND;
             return self;
         }
         if kind_at(kinds, h - 1) == k {
             self.height = h - 1;
             return self;
         }
-        self.fault = 7;
+        self.fault = refusals::WRONG_OPERAND;
         self
     }
 
@@ -99,7 +100,7 @@ impl Stack {
         }
         let h = self.height;
         if 16 <= h {
-            self.fault = 8;
+            self.fault = refusals::TOO_MANY_OPERANDS;
             return self;
         }
         kinds[h as usize] = k;
@@ -153,7 +154,7 @@ impl Stack {
     {
         let top = self.top(kinds);
         if is_record(top) {
-            return self.fail(7);
+            return self.fail(refusals::WRONG_OPERAND);
         }
         self.take(kinds, top)
     }
@@ -178,7 +179,7 @@ impl Stack {
     {
         let k = local_kind(table, own, b);
         if is_record(k) {
-            return self.fail(7);
+            return self.fail(refusals::WRONG_OPERAND);
         }
         self.push(kinds, k)
     }
@@ -196,7 +197,7 @@ impl Stack {
     {
         let k = local_kind(table, own, b);
         if is_reference(k) {
-            return self.fail(7);
+            return self.fail(refusals::WRONG_OPERAND);
         }
         self.push(kinds, k + 2)
     }
@@ -334,7 +335,7 @@ impl Stack {
             format::BRANCH => self,
             format::BRANCH_COND => self.branch_cond(kinds),
             format::OP => self.op(kinds),
-            20..=255 => self.fail(7),
+            format::PAST_OPCODES..=255 => self.fail(refusals::WRONG_OPERAND),
         }
     }
 
@@ -353,9 +354,9 @@ impl Stack {
             return self.fault;
         }
         if self.is_left(last) {
-            return 9;
+            return refusals::OPERANDS_LEFT;
         }
-        if other { 10 } else { 0 }
+        if other { refusals::FOREIGN_NAME } else { 0 }
     }
 
     // The stack of the next row: none at the start of a block.

@@ -81,10 +81,6 @@ module _ (hit : ℕ → Bool) where
   unfolding find
   find-here n i h e = rw (less n i h, e)
 
-  pub find-end : (n : ℕ) → find hit n (n - n) ≡ n
-  unfolding find
-  find-end n = rw (sub-self n)
-
   pub find-past : (n i : ℕ) → n ≤ i → find hit i (n - i) ≡ i
   unfolding find
   find-past n i h = let e : n - i ≡ 0 = omega arith in rw e
@@ -130,6 +126,22 @@ every-at test (suc n) i e h = go (every test n) (test n) refl refl e (decLt i n)
     go true true p q r (no l) rest = let s : i ≡ n = omega arith in rw s q
     go true false p q r d rest = absurd (mathlib.Core.Bool.false≢true r)
     go false b p q r d rest = absurd (mathlib.Core.Bool.false≢true r)
+
+-- a test that is asked of one number after the other
+pub every-none : (test : ℕ → Bool) → every test 0 ≡ true
+unfolding every
+every-none test = refl
+
+pub every-next : (test : ℕ → Bool) (n : ℕ) → every test n ≡ true → test n ≡ true → every test (n + 1) ≡ true
+unfolding every
+every-next test n e h = rw (add-one, e, h)
+
+pub every-fails : (test : ℕ → Bool) (n i : ℕ) → i < n → test i ≡ false → every test n ≡ false
+every-fails test n i h e = go (every test n) refl
+  where
+    go : (b : Bool) → every test n ≡ b → b ≡ false
+    go true q = sym (every-at test n i q h) ∙ e
+    go false q = refl
 
 module _ (hit : ℕ → Bool) where
   pub count-zero : count hit 0 ≡ 0

@@ -10,9 +10,9 @@ use native.Mathlib.Omega.{arith}
 use lib.Dec.{eqb, ltb}
 use lib.ListN.{length, getD, replicate, length-replicate}
 use Rattle.laws.proofs.First.{clean-if}
-use Rattle.reach.specs.Reach.{Mem, here, there, Inside, mark, push, sweep, iter}
+use Rattle.reach.specs.Reach.{Mem, here, there, Inside, mark}
 use Rattle.reach.specs.Search.{Searched, Visit, after, visitOf, visitAll}
-use Rattle.reach.proofs.Laws.{length-mark, length-iter}
+use Rattle.reach.proofs.Laws.{length-mark}
 use Rattle.reach.proofs.Search.{visits-none, visits-more, search-from, taken, finish, tail-le, queued-below}
 use Rattle.table.specs.declared.Row.{Row}
 use Rattle.table.specs.declared.Verdict.{Verdict}
@@ -20,23 +20,25 @@ use Rattle.table.specs.declared.Verdict.the-variants.{Accepted}
 use Rattle.table.specs.declared.index.Index.{Index}
 use Rattle.table.specs.declared.index.ProcedureEntry.{ProcedureEntry}
 use Rattle.table.specs.Rows.{rowCount, rowAt}
-use Rattle.program.specs.Program.{codeOf, codeVerdict, localCount, parametersEnd}
+use Rattle.program.specs.Program.{codeOf, codeVerdict, localCount, parametersEnd, parameterCount}
 use Rattle.program.specs.Limits.{overLimits, limited}
 use Rattle.program.proofs.Laws.{verdictOf, on-part}
 use Rattle.flow.specs.Steps.{Step, below, nextOf, nexts}
 use Rattle.flow.specs.Places.{nodesOf, succs, reached, within, markMoves, placeMoves, startPlaces, markNodes, operandMarked}
+use Rattle.flow.proofs.Same.{marks-same}
 use Rattle.flow.proofs.Paths.{node-div, node-mod}
 use Rattle.spread.specs.declared.Going.{Going}
 use Rattle.spread.specs.Moves.{GoesOn}
 use Rattle.spread.proofs.Laws.{graph-inside, next-below}
 use Rattle.locals.specs.Sets.{noLocals, contains}
-use Rattle.locals.specs.Locals.{parameterCount}
 use Rattle.locals.proofs.Laws.{verdict-same}
 use Rattle.steps.specs.declared.Shape.{Shape}
-use Rattle.steps.specs.Steps.{Given, nothingGiven, givenBy, stepAt, viewStep, noShape}
-use Rattle.steps.proofs.Laws.{parameters-few}
+use Rattle.steps.specs.Steps.{stepAt, marksOf}
+use Rattle.steps.specs.Shapes.{viewStep, noShape}
+use Rattle.steps.proofs.Laws.{parameters-few, marks-are}
 use Rattle.leaks.specs.declared.Shapes.{Shapes}
-use Rattle.leaks.specs.Leaks.{inTrusted, someMarked, leakIn, stepsOf, marksOf, leakFrom, leakFault}
+use Rattle.leaks.specs.Leaks.{guardedMarks, inTrusted, someMarked, leakIn, leakFrom, leakFault}
+use Rattle.leaks.specs.Within.{stepsOf, leakWithin}
 use Rattle.leaks.proofs.Moves.{moves-below}
 
 -- marked operands
@@ -161,37 +163,6 @@ pub count-less : (was going : Bool) {n a b : ℕ} → was ≡ true → a ≤ b �
 count-less was true e h k l = let z = k refl in rw e (omega arith)
 count-less was false e h k l = rw e (omega arith)
 
--- Searches in graphs with the same successors of the nodes.
-
-later : (f g : ℕ → List ℕ) (u n : ℕ) → ((w : ℕ) → w < suc n → f (u + w) ≡ g (u + w)) → (w : ℕ) → w < n → f (u + 1 + w) ≡ g (u + 1 + w)
-later f g u n h w l = let z : u + suc w ≡ u + 1 + w = omega arith in rw z at (h (suc w) (omega arith))
-
-push-same : (f g : ℕ → List ℕ) (s : List Bool) (u : ℕ) (acc : List Bool) → ((w : ℕ) → w < length s → f (u + w) ≡ g (u + w)) → push f u s acc ≡ push g u s acc
-unfolding push
-push-same f g [] u acc h = refl
-push-same f g (true ∷ s) u acc h = let e : f u ≡ g u = rw add-zero at (h 0 (omega arith)) in rw e (push-same f g s (u + 1) (mark acc (g u)) (later f g u (length s) h))
-push-same f g (false ∷ s) u acc h = push-same f g s (u + 1) acc (later f g u (length s) h)
-
-pub iter-same : (f g : ℕ → List ℕ) (k : ℕ) (s : List Bool) → ((u : ℕ) → u < length s → f u ≡ g u) → iter f k s ≡ iter g k s
-unfolding iter sweep
-iter-same f g zero s h = refl
-iter-same f g (suc k) s h =
-    rw (iter-same f g k s h) (push-same f g (iter g k s) 0 (iter g k s) (λ w l. rw zero-add (h w (rw length-iter at l))))
-
--- marks come to the same places for steps that are the same
-pub marks-same : (next : ℕ → List ℕ) (step other : ℕ → Step) (given : ℕ → Bool) (params n : ℕ) → ((i : ℕ) → i < n → step i ≡ other i) → markNodes next step given params n ≡ markNodes next other given params n
-unfolding markNodes reached succs placeMoves
-marks-same next step other given params n h = iter-same _ _ (33 * n) first same
-  where
-    first : List Bool
-    first = mark (replicate (33 * n) false) (startPlaces given params)
-
-    size : length first ≡ 33 * n
-    size = length-mark (startPlaces given params) (replicate (33 * n) false) ∙ length-replicate (33 * n) false
-
-    same : (u : ℕ) → u < length first → nodesOf 33 (next (u / 33)) (within (markMoves (step (u / 33)) (u % 33))) ≡ nodesOf 33 (next (u / 33)) (within (markMoves (other (u / 33)) (u % 33)))
-    same u l = rw (h (u / 33) (omega (arith, size)))
-
 -- the fault of an instruction, from what the code has of it
 pub fault-is :
     (nodes : List Bool) (shapes : Shapes) (shape : Shape) (i : ℕ) {f : ℕ}
@@ -201,57 +172,50 @@ pub fault-is :
 unfolding stepsOf
 fault-is nodes shapes shape i e h = rw (← e) (sym h)
 
--- Where no local is in the set, and no result in the list, nothing is given as marked.
-
-all-false : (n k : ℕ) → getD (replicate n false) k false ≡ false
-all-false zero k = refl
-all-false (suc n) zero = refl
-all-false (suc n) (suc k) = all-false n k
-
+-- no local is in the empty set, so no parameter starts marked
 none-contained : contains noLocals ≡ (λ (l : ℕ). false)
 unfolding contains
 none-contained = fun-ext (λ l. all-false 16 l)
+  where
+    all-false : (n k : ℕ) → getD (replicate n false) k false ≡ false
+    all-false zero k = refl
+    all-false (suc n) zero = refl
+    all-false (suc n) (suc k) = all-false n k
 
-none-given : givenBy (λ (l : ℕ). false) (replicate 512 false) ≡ nothingGiven
-unfolding givenBy
-none-given = ap (λ (f : ℕ → ℕ → Bool). record { parameter = λ (l : ℕ). false; result = f }) (fun-ext (λ q. fun-ext (λ r. rw (all-false 512 (4 * q + r)) (and-false (ltb r 4)))))
-
--- the verdict on the code of procedure p, from the marks that the code finds
+-- the verdict on the code of procedure q, from the marks that the code finds
 pub procedure-verdict :
-    (t c : List ℕ) (ix : Index) (results : List Bool) (p : ProcedureEntry) (shapes : Shapes) (nodes : List Bool) (params : ℕ) (v : Verdict)
+    (t c : List ℕ) (ix : Index) (q : ℕ) (p : ProcedureEntry) (shapes : Shapes) (nodes : List Bool) (params : ℕ) (v : Verdict)
     → c ≡ codeOf t p
     → params ≡ parametersEnd t p - (p .row + 1)
-    → ((i : ℕ) → i < rowCount c → stepsOf shapes i ≡ stepAt t ix (givenBy (λ (l : ℕ). false) results) p i)
+    → ((i : ℕ) → i < rowCount c → stepsOf shapes i ≡ stepAt t ix (guardedMarks t) p i)
     → nodes ≡ markNodes (nexts c) (stepsOf shapes) (contains noLocals) params (rowCount c)
     → v ≡ codeVerdict (λ (i : ℕ). leakIn nodes (stepsOf shapes i) i) (p .code) (rowCount c)
-    → v ≡ codeVerdict (leakFrom t ix (givenBy (λ (l : ℕ). false) results) p (marksOf t ix (givenBy (λ (l : ℕ). false) results) p)) (p .code) (rowCount c)
-unfolding marksOf leakFrom givenBy parameterCount
-procedure-verdict t c ix results p shapes nodes params v e q same found h =
+    → v ≡ codeVerdict (leakFrom t ix p (marksOf t ix (guardedMarks t) q p)) (p .code) (rowCount c)
+unfolding leakFrom parameterCount
+procedure-verdict t c ix q p shapes nodes params v e n same found h =
     h ∙ verdict-same _ _ (p .code) (rowCount c) (λ i l. ap₂ (λ (ns : List Bool) (s : Step). leakIn ns s i) marks (same i l))
   where
-    marks : nodes ≡ marksOf t ix (givenBy (λ (l : ℕ). false) results) p
-    marks = found ∙ rw (none-contained, q) (marks-same (nexts c) _ _ _ _ (rowCount c) same ∙ rw e)
+    marks : nodes ≡ marksOf t ix (guardedMarks t) q p
+    marks = found ∙ rw (none-contained, n) (marks-same (nexts c) _ _ _ _ (rowCount c) same ∙ rw (e, marks-are t ix (guardedMarks t) q p))
 
 -- the verdict on a procedure of a trusted module is that on its code, and any other procedure is accepted
-module _ (t : List ℕ) (ix : Index) (p : ProcedureEntry) where
+module _ (t : List ℕ) (ix : Index) (q : ℕ) (p : ProcedureEntry) where
   pub trusted-verdict :
-      (c : List ℕ) (results : List Bool) (v : Verdict)
+      (c : List ℕ) (v : Verdict)
       → inTrusted t ix p ≡ true
       → c ≡ codeOf t p
-      → results ≡ replicate 512 false
-      → v ≡ codeVerdict (limited t (λ (p : ProcedureEntry). leakFrom t ix (givenBy (λ (l : ℕ). false) results) p (marksOf t ix (givenBy (λ (l : ℕ). false) results) p)) p) (p .code) (rowCount c)
-      → verdictOf (limited t (leakFault t ix nothingGiven)) ix t p ≡ v
-  unfolding leakFault limited
-  trusted-verdict c results v trusted e q h =
-      on-part (limited t (leakFault t ix nothingGiven)) ix t c p v e
-      (h ∙ ap (λ (given : Given). codeVerdict (cond (overLimits t p) (λ (i : ℕ). 0) (leakFrom t ix given p (marksOf t ix given p))) (p .code) (rowCount c)) (ap (givenBy (λ (l : ℕ). false)) q ∙ none-given)
-      ∙ ap (λ (b : Bool). codeVerdict (cond (overLimits t p) (λ (i : ℕ). 0) (λ (i : ℕ). cond b (leakFrom t ix nothingGiven p (marksOf t ix nothingGiven p) i) 0)) (p .code) (rowCount c)) (sym trusted))
+      → v ≡ codeVerdict (limited t p (leakFrom t ix p (marksOf t ix (guardedMarks t) q p))) (p .code) (rowCount c)
+      → verdictOf (leakWithin t ix) ix t q p ≡ v
+  unfolding leakFault
+  trusted-verdict c v trusted e h =
+      on-part (leakWithin t ix) ix t c q p v e
+      (h ∙ ap (λ (b : Bool). codeVerdict (limited t p (λ (i : ℕ). cond b (leakFrom t ix p (marksOf t ix (guardedMarks t) q p) i) 0)) (p .code) (rowCount c)) (sym trusted))
 
-  pub guest-verdict : inTrusted t ix p ≡ false → verdictOf (limited t (leakFault t ix nothingGiven)) ix t p ≡ Accepted (rowCount (codeOf t p))
+  pub guest-verdict : inTrusted t ix p ≡ false → verdictOf (leakWithin t ix) ix t q p ≡ Accepted (rowCount (codeOf t p))
   unfolding verdictOf leakFault limited codeVerdict
   guest-verdict guest = clean-if Accepted _ _ 0 (rowCount (codeOf t p)) (λ j lo hi. none j (overLimits t p)) ∙ ap Accepted (zero-add (rowCount (codeOf t p)))
     where
-      none : (j : ℕ) (b : Bool) → cond {A = ℕ → ℕ} b (λ (i : ℕ). 0) (λ (i : ℕ). cond (inTrusted t ix p) (leakFrom t ix nothingGiven p (marksOf t ix nothingGiven p) i) 0) j ≡ 0
+      none : (j : ℕ) (b : Bool) → cond {A = ℕ → ℕ} b (λ (i : ℕ). 0) (λ (i : ℕ). cond (inTrusted t ix p) (leakFrom t ix p (marksOf t ix (guardedMarks t) q p) i) 0) j ≡ 0
       none j true = refl
       none j false = rw guest
 

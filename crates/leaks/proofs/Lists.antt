@@ -1,23 +1,29 @@
 -- Laws of what a walk sees of a procedure's instructions, listed one after the other.
-use Prim.Native.Nat.{ℕ, _+_, _/_, _<_}
-use mathlib.Core.Path.{_≡_, _∙_}
-use mathlib.Core.Bool.{cond}
+use Prim.Native.Nat.{ℕ, _+_, _/_, _<_, _≤_}
+use mathlib.Core.Path.{_≡_, refl, sym, _∙_}
+use mathlib.Core.Bool.{Bool, true, false, cond}
+use mathlib.Mathlib.Data.Bool.Basic.{and-eq-true-eq-eq-true-and-eq-true as both}
 use mathlib.Core.List.{List}
-use native.Mathlib.Decide.{ℕ-discrete}
+use native.Mathlib.Decide.{decLt, ℕ-discrete}
 use native.Mathlib.Omega.{arith}
+use borrow.Author.Tests.{eqb-true}
 use lib.Dec.{eqb}
-use lib.ListN.{length, getD, set, length-set}
+use lib.ListN.{length, getD, set, replicate, length-set, length-replicate, getD-replicate, List·getD-eq-default}
 use lib.Seq.{getD-set-same, getD-set-other}
 use Rattle.table.specs.declared.Row.{Row}
 use Rattle.table.specs.declared.index.Index.{Index}
 use Rattle.table.specs.declared.index.TypeEntry.{TypeEntry}
 use Rattle.table.specs.declared.index.ProcedureEntry.{ProcedureEntry}
+use Rattle.table.specs.Format.{opBorrowFld}
 use Rattle.table.specs.Rows.{rowAt}
-use Rattle.program.specs.Program.{codeOf, typeIn, procedureIn}
+use Rattle.program.specs.Program.{number, codeOf, typeIn, procedureIn}
+use Rattle.kinds.specs.Effects.{effects, effectOf}
 use Rattle.operands.specs.Operands.{namedType}
 use Rattle.flow.specs.Steps.{Step}
 use Rattle.steps.specs.declared.Shape.{Shape}
-use Rattle.steps.specs.Steps.{Given, stepOf, stepAt, viewStep, noShape}
+use Rattle.steps.specs.Steps.{Marking, stepOf, stepAt}
+use Rattle.steps.specs.Shapes.{viewStep, noShape, Makes}
+use Rattle.leaks.specs.Leaks.{borrowsGuarded, guardedMarks}
 
 -- the first i of the steps are listed, of 256
 abbrev pub Listed : (ℕ → Step) → List Shape → ℕ → Type 0
@@ -32,11 +38,28 @@ listed-more step at i shape before h e = (length-set at i shape ∙ before .0, �
 
 -- instruction i, from what the code reads of it
 pub step-is :
-    (t c : List ℕ) (ix : Index) (given : Given) (p : ProcedureEntry) (i : ℕ) {row : Row} {named : TypeEntry} {callee : ProcedureEntry}
+    (t c : List ℕ) (ix : Index) (m : Marking) (p : ProcedureEntry) (i : ℕ) {row : Row} {named : TypeEntry} {callee : ProcedureEntry}
     → c ≡ codeOf t p
     → row ≡ rowAt c i
     → named ≡ typeIn ix (cond (eqb (row .a) 8) (row .b / 8) (row .b))
     → callee ≡ procedureIn ix (row .b)
-    → stepOf t given p named callee row ≡ stepAt t ix given p i
+    → stepOf t m p named callee row ≡ stepAt t ix m p i
 unfolding stepAt namedType
-step-is t c ix given p i e q n m = rw (n, m, q, e)
+step-is t c ix m p i e q n k = rw (n, k, q, e)
+
+-- eight equal marks are what the instruction makes: BorrowFld pushes one operand, and any other instruction makes none
+pub guarded-makes : (t : List ℕ) (own : ProcedureEntry) (named : TypeEntry) (callee : ProcedureEntry) (row : Row) (b : Bool) → b ≡ borrowsGuarded t named row
+    → Makes (guardedMarks t) t own named callee row (replicate 8 b) false
+unfolding borrowsGuarded effectOf effects
+guarded-makes t own named callee row b e = record { made = λ r h. rw (← e) (go r h (decLt r 8)); carried = refl }
+  where
+    one : borrowsGuarded t named row ≡ true → length (effectOf t own named callee row number .gives) ≡ 1
+    one q = let op : row .a ≡ opBorrowFld = eqb-true _ _ (both (eqb (row .a) opBorrowFld) _ .0 q .0) in rw op
+
+    many : (b : Bool) (r : ℕ) → b ≡ borrowsGuarded t named row → r < length (effectOf t own named callee row number .gives) → 8 ≤ r → false ≡ b
+    many true r q h l = absurd (omega (arith, one (sym q)))
+    many false r q h l = refl
+
+    go : (r : ℕ) → r < length (effectOf t own named callee row number .gives) → Dec (r < 8) → getD (replicate 8 b) r false ≡ b
+    go r h (yes l) = getD-replicate 8 r b false l
+    go r h (no l) = List·getD-eq-default (replicate 8 b) false {n = r} (omega (arith, length-replicate 8 b)) ∙ many b r e h (omega arith)

@@ -19,7 +19,7 @@ use Rattle.flow.specs.Steps.{Step}
 use Rattle.flow.specs.Places.{freshPlaces, within, markMoves, placeMoves}
 use Rattle.spread.specs.Moves.{added}
 use Rattle.steps.specs.declared.Shape.{Shape}
-use Rattle.steps.specs.Steps.{viewStep}
+use Rattle.steps.specs.Shapes.{viewStep}
 use Rattle.leaks.specs.Unmarked.{makesNoMark}
 
 -- what is within is below 33
@@ -66,10 +66,14 @@ module _ (s : Step) (x : ℕ) (some : 17 ≤ x) where
   unfolding within markMoves
   operand-stored h e l = rw (ne-eqb x 0 (λ e. omega arith), le-ltb x 17 some, lt-ltb (x - 17) (s .takes) h, e, lt-ltb (s .operand) 16 l, lt-ltb (s .operand + 1) 33 (omega arith))
 
-  pub operand-lost : x - 17 < s .takes → (s .opcode ≡ opStLoc → ⊥) ⊎ (16 ≤ s .operand) → [] ≡ within (markMoves s x)
+  pub operand-lost : x - 17 < s .takes → (s .opcode ≡ opStLoc → ⊥) ⊎ (16 ≤ s .operand) → cond (s .carries) (17 ∷ []) [] ≡ within (markMoves s x)
   unfolding within markMoves
-  operand-lost h e = rw (ne-eqb x 0 (λ e. omega arith), le-ltb x 17 some, lt-ltb (x - 17) (s .takes) h, neither e)
+  operand-lost h e = rw (ne-eqb x 0 (λ e. omega arith), le-ltb x 17 some, lt-ltb (x - 17) (s .takes) h, neither e) (go (s .carries))
     where
+      go : (b : Bool) → cond b (17 ∷ []) [] ≡ within (cond b (17 ∷ []) [])
+      go true = refl
+      go false = refl
+
       neither : (s .opcode ≡ opStLoc → ⊥) ⊎ (16 ≤ s .operand) → (eqb (s .opcode) opStLoc && ltb (s .operand) 16) ≡ false
       neither (inl n) = rw (ne-eqb (s .opcode) opStLoc n)
       neither (inr l) = rw (le-ltb (s .operand) 16 l) (and-false (eqb (s .opcode) opStLoc))
@@ -106,8 +110,8 @@ module _ (s : Shape) where
   unfolding within markMoves viewStep
   fresh-start e = rw e (refl, omega arith)
 
-  -- no mark is past the fourth operand
-  none-past : length (s .fresh) ≡ 4 → (r : ℕ) → 4 ≤ r → freshPlaces (drop r marks) ≡ []
+  -- no mark is past the eighth operand
+  none-past : length (s .fresh) ≡ 8 → (r : ℕ) → 8 ≤ r → freshPlaces (drop r marks) ≡ []
   none-past size r h = none-fresh (drop r marks) past
     where
       past : (k : ℕ) → getD (drop r marks) k false ≡ false
@@ -141,7 +145,7 @@ module _ (s : Shape) where
         above : length (drop (r + 1) marks) + 17 ≡ place
         above = rw (length-drop, length-tabulate) (omega arith)
 
-        pub fresh-added : {ys : List ℕ} → r < 4 → place < 33 → ys ≡ added xs place → Placed ys (r + 1)
+        pub fresh-added : {ys : List ℕ} → r < 8 → place < 33 → ys ≡ added xs place → Placed ys (r + 1)
         unfolding freshPlaces within added
         fresh-added h l e =
             let full : ltb (length xs) 9 ≡ true = lt-ltb (length xs) 9 (omega arith) in
@@ -154,7 +158,7 @@ module _ (s : Shape) where
         unfolding freshPlaces within
         fresh-past h = (before .0 ∙ rw (next r there, marked, above, le-ltb place 33 h), omega arith)
 
-    pub fresh-end : length (s .fresh) ≡ 4 → 4 ≤ r → xs ≡ within (markMoves (viewStep s) 0)
+    pub fresh-end : length (s .fresh) ≡ 8 → 8 ≤ r → xs ≡ within (markMoves (viewStep s) 0)
     unfolding within
     fresh-end size h = sym (before .0 ∙ rw (none-past size r h) (append-nil xs))
 
@@ -173,12 +177,12 @@ module _ (s : Shape) where
     unfolding freshPlaces
     clear-unmarked h e = before ∙ rw (next r h, e)
 
-    -- at the first mark, and past the fourth operand
+    -- at the first mark, and past the eighth operand
     pub clear-found : r < s .gives → getD (s .fresh) r false ≡ true → makesNoMark (viewStep s) ≡ false
     unfolding freshPlaces makesNoMark viewStep none
     clear-found h e = rw (before, next r h, e) (and-false (leb (s .takes) 16))
 
-    pub clear-end : length (s .fresh) ≡ 4 → 4 ≤ r → s .takes ≤ 16 → makesNoMark (viewStep s) ≡ true
+    pub clear-end : length (s .fresh) ≡ 8 → 8 ≤ r → s .takes ≤ 16 → makesNoMark (viewStep s) ≡ true
     unfolding makesNoMark viewStep none
     clear-end size h few = rw (before, none-past size r h, le-leb (s .takes) 16 few)
 

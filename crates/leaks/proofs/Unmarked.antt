@@ -4,7 +4,7 @@ use Prim.Native.Nat.{ℕ, zero, suc, _+_, _-_, _<_, _≤_}
 use mathlib.Core.Path.{_≡_, refl, sym, ap, _∙_}
 use mathlib.Core.Bool.{Bool, true, false, not, false≢true, _&&_, _||_, and-false}
 use mathlib.Core.Logic.{_⊎_, inl, inr}
-use native.Mathlib.Decide.{decLt}
+use native.Mathlib.Decide.{decLt, ℕ-discrete}
 use lib.ListN.{getD, List·getD-eq-default}
 use mathlib.Core.List.{List, [], _∷_, List·Memᴰ·eq-of-singleton}
 use native.Mathlib.Nat.{zero-add}
@@ -13,6 +13,7 @@ use native.Mathlib.Omega.{arith}
 use borrow.Author.Tests.{leb-true, le-leb, lt-leb, eqb-true, not-true}
 use lib.Dec.{eqb, leb}
 use Rattle.laws.specs.Lists.{none, every, tabulate}
+use Rattle.laws.specs.First.{firstFault}
 use Rattle.laws.proofs.First.{clean-if}
 use Rattle.laws.proofs.Lists.{every-at, length-tabulate, getD-tabulate}
 use Rattle.reach.specs.Reach.{Mem}
@@ -23,38 +24,23 @@ use Rattle.table.specs.declared.Row.{Row}
 use Rattle.table.specs.declared.index.TypeEntry.{TypeEntry}
 use Rattle.table.specs.Format.{opBorrowFld, opCall, opRet}
 use Rattle.table.specs.Rows.{rowCount, rowAt}
-use Rattle.program.specs.Program.{codeOf, codeVerdict, resultKinds}
+use Rattle.program.specs.Program.{codeOf, codeVerdict, resultKinds, parameterCount}
+use Rattle.program.specs.Limits.{overLimits, limited}
+use Rattle.program.proofs.Laws.{verdictOf, limited-in, limited-out}
 use Rattle.kinds.specs.Effects.{effects}
 use Rattle.flow.specs.Steps.{Step, nexts}
 use Rattle.flow.specs.Places.{freshPlaces, within, markMoves, placeMoves, startPlaces, markNodes, operandMarked}
 use Rattle.flow.specs.Paths.{Path, atFirst, onwards}
 use Rattle.flow.proofs.Paths.{path-shown}
 use Rattle.spread.proofs.Laws.{next-below}
-use Rattle.locals.specs.Locals.{parameterCount}
-use Rattle.steps.specs.Steps.{Given, borrowsGuarded, freshMarks, stepOf, stepAt, givenBy}
-use Rattle.steps.proofs.Laws.{length-kinds, listed}
+use Rattle.steps.specs.Steps.{stepOf, stepAt, marksOf}
+use Rattle.steps.proofs.Laws.{length-kinds, listed, marks-are}
 use Rattle.leaks.specs.declared.Shapes.{Shapes}
-use Rattle.leaks.specs.Leaks.{someMarked, leakIn, stepsOf, marksOf, leakFrom}
+use Rattle.leaks.specs.Leaks.{borrowsGuarded, guardedMarks, inTrusted, someMarked, leakIn, leakFrom}
+use Rattle.leaks.specs.Within.{leakWithin, stepsOf}
 use Rattle.leaks.specs.Unmarked.{makesNoMark, canMark, isQuiet}
 use Rattle.leaks.proofs.Moves.{moves-below, none-fresh}
-use Rattle.leaks.proofs.Laws.{some-none, some-next}
-
--- Laws of `every`, for a test that is asked of one number after the other.
-
-pub every-none : (test : ℕ → Bool) → every test 0 ≡ true
-unfolding every
-every-none test = refl
-
-pub every-next : (test : ℕ → Bool) (n : ℕ) → every test n ≡ true → test n ≡ true → every test (n + 1) ≡ true
-unfolding every
-every-next test n e h = rw (add-one, e, h)
-
-pub every-fails : (test : ℕ → Bool) (n i : ℕ) → i < n → test i ≡ false → every test n ≡ false
-every-fails test n i h e = go (every test n) refl
-  where
-    go : (b : Bool) → every test n ≡ b → b ≡ false
-    go true q = sym (every-at test n i q h) ∙ e
-    go false q = refl
+use Rattle.leaks.proofs.Laws.{some-none, some-next, trusted-verdict, guest-verdict}
 
 -- an instruction that makes no mark takes at most 16 operands, and pushes none that is marked of itself
 makes-none : (s : Step) → makesNoMark s ≡ true → (s .takes ≤ 16) × (freshPlaces (s .fresh) ≡ [])
@@ -77,23 +63,23 @@ no-marks f n h = none-fresh (tabulate f n) (λ r. go r (decLt r n))
     go r (yes l) = getD-tabulate f false n r l ∙ h r
     go r (no l) = List·getD-eq-default (tabulate f n) false {n = r} (rw length-tabulate (omega arith))
 
-quiet-step : (t : List ℕ) (given : Given) (own : ProcedureEntry) (named : TypeEntry) (callee : ProcedureEntry) (row : Row)
+quiet-step : (t : List ℕ) (own : ProcedureEntry) (named : TypeEntry) (callee : ProcedureEntry) (row : Row)
     → own .code - own .results ≤ 16
     → canMark (row .a) ≡ false
-    → Quiet (stepOf t given own named callee row)
-unfolding canMark stepOf freshMarks borrowsGuarded effects resultKinds Quiet
-quiet-step t given own named callee row few e = go (eqb (row .a) opBorrowFld) (eqb (row .a) opCall) (eqb (row .a) opRet) refl refl refl e
+    → Quiet (stepOf t (guardedMarks t) own named callee row)
+unfolding canMark stepOf borrowsGuarded effects resultKinds Quiet
+quiet-step t own named callee row few e = go (eqb (row .a) opBorrowFld) (eqb (row .a) opCall) (eqb (row .a) opRet) refl refl refl e
   where
     s : Step
-    s = stepOf t given own named callee row
+    s = stepOf t (guardedMarks t) own named callee row
 
     go : (a b c : Bool) → eqb (row .a) opBorrowFld ≡ a → eqb (row .a) opCall ≡ b → eqb (row .a) opRet ≡ c → (a || b) ≡ false → Quiet s
     go true b c p q r e = absurd (false≢true (sym e))
     go false true c p q r e = absurd (false≢true (sym e))
     go false false true p q r e =
         let takes = listed t own named callee row 16 (eqb-true (row .a) opRet r) (sym (length-kinds t (own .results) (own .code))) refl .0 in
-        (no-marks _ _ (λ k. rw (q, p)), inl (rw (← takes) few))
-    go false false false p q r e = (no-marks _ _ (λ k. rw (q, p)), inr (q, r))
+        (no-marks _ _ (λ k. rw p), inl (rw (← takes) few))
+    go false false false p q r e = (no-marks _ _ (λ k. rw p), inr (q, r))
 
 quiet-fresh : (s : Step) → Quiet s → freshPlaces (s .fresh) ≡ []
 unfolding Quiet
@@ -167,27 +153,27 @@ no-leak nodes s i (fresh, inl few) none = rw (none (s .takes) few, and-false (eq
 no-leak nodes s i (fresh, inr others) none = rw (others .0, others .1)
 
 -- a procedure whose instructions are quiet is accepted
-module _ (t c : List ℕ) (ix : Index) (results : List Bool) (p : ProcedureEntry) (part : c ≡ codeOf t p) (some : 0 < rowCount c) where
+module _ (t c : List ℕ) (ix : Index) (q : ℕ) (p : ProcedureEntry) (part : c ≡ codeOf t p) (some : 0 < rowCount c) where
   abbrev step : ℕ → Step
-  step = stepAt t ix (givenBy (λ (l : ℕ). false) results) p
+  step = stepAt t ix (guardedMarks t) p
 
   abbrev Clean : Type 0
-  Clean = Accepted (rowCount c) ≡ codeVerdict (leakFrom t ix (givenBy (λ (l : ℕ). false) results) p (marksOf t ix (givenBy (λ (l : ℕ). false) results) p)) (p .code) (rowCount c)
+  Clean = Accepted (rowCount c) ≡ codeVerdict (leakFrom t ix p (marksOf t ix (guardedMarks t) q p)) (p .code) (rowCount c)
 
   clean-verdict : ((i : ℕ) → i < rowCount c → Quiet (step i)) → Clean
-  unfolding codeVerdict leakFrom marksOf givenBy
+  unfolding codeVerdict leakFrom
   clean-verdict each = sym (clean-if Accepted _ _ 0 (rowCount c) (λ j lo hi. clean j (omega arith)) ∙ ap Accepted (zero-add (rowCount c)))
     where
-      clean : (j : ℕ) → j < rowCount c → leakFrom t ix (givenBy (λ (l : ℕ). false) results) p (marksOf t ix (givenBy (λ (l : ℕ). false) results) p) j ≡ 0
+      clean : (j : ℕ) → j < rowCount c → leakFrom t ix p (marksOf t ix (guardedMarks t) q p) j ≡ 0
       clean j l =
-          rw (← part) (no-leak _ (step j) j (each j l) (some-unmarked (nexts c) step (parameterCount t p) (rowCount c) some (next-below c) (λ i h. quiet-fresh (step i) (each i h)) j))
+          rw (marks-are t ix (guardedMarks t) q p, ← part) (no-leak _ (step j) j (each j l) (some-unmarked (nexts c) step (parameterCount t p) (rowCount c) some (next-below c) (λ i h. quiet-fresh (step i) (each i h)) j))
 
   -- so is one whose code can make none, and one in which none is made
   pub quiet-verdict : isQuiet c p ≡ true → Clean
   unfolding stepAt
   quiet-verdict e =
-      let q = quiet-inv c p e in
-      clean-verdict (λ i l. rw (← part) (quiet-step t _ p _ _ (rowAt c i) (q .0) (not-true _ (every-at _ (rowCount c) i (q .1) l))))
+      let k = quiet-inv c p e in
+      clean-verdict (λ i l. rw (← part) (quiet-step t p _ _ (rowAt c i) (k .0) (not-true _ (every-at _ (rowCount c) i (k .1) l))))
 
   pub unmarked-verdict :
       (shapes : Shapes)
@@ -197,3 +183,18 @@ module _ (t c : List ℕ) (ix : Index) (results : List Bool) (p : ProcedureEntry
   unfolding Quiet
   unmarked-verdict shapes same made =
       clean-verdict (λ i l. let m = makes-none (step i) (ap makesNoMark (sym (same i l)) ∙ every-at (λ (i : ℕ). makesNoMark (stepsOf shapes i)) (rowCount c) i made l) in (m .1, inl (m .0)))
+
+-- so is one of a guest, over a limit or without code: the verdict on a procedure that can make no mark
+module _ (t c : List ℕ) (ix : Index) (q : ℕ) (p : ProcedureEntry) where
+  pub clear-verdict : c ≡ codeOf t p → isQuiet c p ≡ true → verdictOf (leakWithin t ix) ix t q p ≡ Accepted (rowCount c)
+  unfolding codeVerdict firstFault
+  clear-verdict e quiet = go (inTrusted t ix p) (overLimits t p) refl refl (ℕ-discrete (rowCount c) 0)
+    where
+      none-there : rowCount c ≡ 0 → Accepted (rowCount c) ≡ codeVerdict (limited t p (leakFrom t ix p (marksOf t ix (guardedMarks t) q p))) (p .code) (rowCount c)
+      none-there z = rw z refl
+
+      go : (a b : Bool) → inTrusted t ix p ≡ a → overLimits t p ≡ b → Dec (rowCount c ≡ 0) → verdictOf (leakWithin t ix) ix t q p ≡ Accepted (rowCount c)
+      go false b h l z = guest-verdict t ix q p h ∙ rw e
+      go true true h l z = trusted-verdict t ix q p c _ h e (rw e (sym (limited-out t p _ l)))
+      go true false h l (yes z) = trusted-verdict t ix q p c _ h e (none-there z)
+      go true false h l (no z) = trusted-verdict t ix q p c _ h e (rw (limited-in t p (leakFrom t ix p (marksOf t ix (guardedMarks t) q p)) l) (quiet-verdict t c ix q p e (omega arith) quiet))

@@ -1,25 +1,39 @@
 -- The leaks pass: refusals 13 and 14 of document 01 ("escape analysis" in the field), in trusted modules only.
-use Prim.Native.Nat.{ℕ, zero, suc}
+use Prim.Native.Nat.{ℕ, zero, suc, _%_}
 use mathlib.Core.Bool.{Bool, false, cond, _&&_, _||_}
 use mathlib.Core.List.{List}
 use lib.Dec.{eqb}
 use lib.ListN.{getD}
+use Rattle.table.specs.declared.Row.{Row}
 use Rattle.table.specs.declared.Verdict.{Verdict}
 use Rattle.table.specs.declared.index.Index.{Index}
+use Rattle.table.specs.declared.index.TypeEntry.{TypeEntry}
 use Rattle.table.specs.declared.index.ProcedureEntry.{ProcedureEntry}
-use Rattle.table.specs.Format.{opCall, opRet}
-use Rattle.table.specs.Rows.{rowCount, rowAt}
+use Rattle.table.specs.Format.{opBorrowFld, opCall, opRet}
+use Rattle.table.specs.Rows.{rowAt}
 use Rattle.table.specs.Index.{indexOf}
-use Rattle.program.specs.Program.{codeOf, codePass}
-use Rattle.flow.specs.Steps.{Step, nexts}
-use Rattle.flow.specs.Places.{markNodes, operandMarked}
-use Rattle.locals.specs.Locals.{parameterCount}
-use Rattle.steps.specs.Steps.{Given, nothingGiven, stepAt, viewStep, noShape}
-use Rattle.leaks.specs.declared.Shapes.{Shapes}
+use Rattle.table.specs.Refusals.{markGiven, markReturned}
+use Rattle.table.specs.Flags.{isTrusted, isGuarded}
+use Rattle.program.specs.Program.{fieldRow, codePass}
+use Rattle.flow.specs.Steps.{Step}
+use Rattle.flow.specs.Places.{operandMarked}
+use Rattle.steps.specs.Steps.{Marking, stepAt, marksOf}
+
+-- whether BorrowFld borrows a guarded field
+unfoldable pub borrowsGuarded : List ℕ → TypeEntry → Row → Bool
+borrowsGuarded t named row = eqb (row .a) opBorrowFld && isGuarded (rowAt t (fieldRow named (row .b % 8)))
+
+-- marked is a reference made by BorrowFld of a guarded field; no parameter starts marked, and marks go with copies through locals alone
+abbrev pub guardedMarks : List ℕ → Marking
+guardedMarks t = record {
+  starts = λ (q l : ℕ). false;
+  makes = λ (named : TypeEntry) (row : Row) (r : ℕ). borrowsGuarded t named row;
+  carries = λ (row : Row). false;
+}
 
 -- whether the module at a row is trusted, and whether a procedure stands in such a one
 abbrev pub trustedAt : List ℕ → ℕ → Bool
-trustedAt t row = eqb (rowAt t row .a) 1
+trustedAt t row = isTrusted (rowAt t row)
 
 unfoldable pub inTrusted : List ℕ → Index → ProcedureEntry → Bool
 inTrusted t ix p = trustedAt t (getD (ix .«module_rows») (p .owner) 0)
@@ -32,26 +46,18 @@ someMarked nodes i (suc n) = someMarked nodes i n || operandMarked nodes i n
 -- 13: a marked reference given to a Call; 14: a marked reference returned
 unfoldable pub leakIn : List Bool → Step → ℕ → ℕ
 leakIn nodes s i =
-    cond (eqb (s .opcode) opCall && someMarked nodes i (s .takes)) 13
-    (cond (eqb (s .opcode) opRet && someMarked nodes i (s .takes)) 14 0)
+    cond (eqb (s .opcode) opCall && someMarked nodes i (s .takes)) markGiven
+    (cond (eqb (s .opcode) opRet && someMarked nodes i (s .takes)) markReturned 0)
 
--- what values of the code stand for
-unfoldable pub stepsOf : Shapes → ℕ → Step
-stepsOf shapes i = viewStep (getD (shapes .at) i noShape)
+-- of procedure q, whose entry is p, in a table with this index
+module _ (t : List ℕ) (ix : Index) where
+  -- the number that instruction i earns in a trusted module, from where marks come to
+  unfoldable pub leakFrom : ProcedureEntry → List Bool → ℕ → ℕ
+  leakFrom p nodes i = leakIn nodes (stepAt t ix (guardedMarks t) p i) i
 
--- of procedure p in a table with this index, with these marks given
-module _ (t : List ℕ) (ix : Index) (given : Given) (p : ProcedureEntry) where
-  -- where marks come to on walks
-  unfoldable pub marksOf : List Bool
-  marksOf = markNodes (nexts (codeOf t p)) (stepAt t ix given p) (given .parameter) (parameterCount t p) (rowCount (codeOf t p))
+  unfoldable pub leakFault : ℕ → ProcedureEntry → ℕ → ℕ
+  leakFault q p = let nodes = marksOf t ix (guardedMarks t) q p in λ (i : ℕ). cond (inTrusted t ix p) (leakFrom p nodes i) 0
 
-  -- the number that instruction i earns in a trusted module
-  unfoldable pub leakFrom : List Bool → ℕ → ℕ
-  leakFrom nodes i = leakIn nodes (stepAt t ix given p i) i
-
-  unfoldable pub leakFault : ℕ → ℕ
-  leakFault = let nodes = marksOf in λ (i : ℕ). cond (inTrusted t ix p) (leakFrom nodes i) 0
-
--- the leaks pass over a table; nothing is given
+-- the leaks pass over a table
 unfoldable pub leaksOf : List ℕ → Verdict
-leaksOf t = codePass (leakFault t (indexOf t) nothingGiven) (indexOf t) t
+leaksOf t = codePass (leakFault t (indexOf t)) (indexOf t) t

@@ -1,8 +1,8 @@
 // The leaks pass: refusals 13 and 14.
 ghost use mathlib.Core.Path.{_≡_};
 ghost use mathlib.Core.Bool.{true, false, cond, _&&_};
+ghost use mathlib.Core.List.{[], _∷_};
 ghost use Prim.Native.Nat.{ℕ, _+_, _*_, _≤_, _<_};
-ghost use lib.Dec.{eqb};
 ghost use lib.ListN.{length};
 ghost use Rattle.laws.specs.Lists.{every};
 ghost use Rattle.reach.specs.Search.{after, visitAll};
@@ -13,9 +13,10 @@ ghost use Rattle.flow.specs.Steps.{nexts};
 ghost use Rattle.flow.specs.Places.{markPlaces, markMoves, within, markNodes, startPlaces};
 ghost use Rattle.spread.specs.Moves.{placesOf, GoesOn};
 ghost use Rattle.locals.specs.Sets.{contains};
-ghost use Rattle.steps.specs.Steps.{viewStep, stepAt, givenBy};
-ghost use Rattle.leaks.specs.Leaks.{trustedAt, someMarked, marksOf, leakFrom, leakIn, stepsOf};
-ghost use Rattle.leaks.specs.Within.{leaksWithin};
+ghost use Rattle.steps.specs.Steps.{stepOf, stepAt, marksOf};
+ghost use Rattle.steps.specs.Shapes.{viewStep};
+ghost use Rattle.leaks.specs.Leaks.{borrowsGuarded, guardedMarks, trustedAt, someMarked, leakFrom, leakIn};
+ghost use Rattle.leaks.specs.Within.{leaksFrom, leaksWithin, stepsOf};
 ghost use Rattle.leaks.specs.Unmarked.{makesNoMark, canMark, isQuiet};
 use locals::LocalSet;
 use spread::Going;
@@ -27,6 +28,7 @@ use table::format;
 use table::index::Index;
 use table::index::ProcedureEntry;
 use table::index::TypeEntry;
+use table::refusals;
 
 // What a walk sees of each instruction of a procedure.
 pub struct Shapes {
@@ -39,7 +41,7 @@ fn fresh_moves(s: Shape) -> Moves
 {
     let mut moves = Moves::NONE.add(0);
     let mut r = 0;
-    while r < 4 {
+    while r < 8 {
         if r < s.gives as usize {
             if s.fresh[r] {
                 let place = 17 + (s.gives as usize) - 1 - r;
@@ -73,6 +75,16 @@ fn local_moves(s: Shape, x: usize) -> Moves
     Moves::NONE
 }
 
+// Where a mark on an operand that is taken goes: to what is pushed, if the instruction carries it.
+fn carried(s: Shape) -> Moves
+    ensures { λ r. ⌜ placesOf r ≡ cond (s .carries) (17 ∷ []) [] ⌝ }
+{
+    if s.carries {
+        return Moves::NONE.add(17);
+    }
+    Moves::NONE
+}
+
 // Where a mark on an operand goes: x is 17 to 32.
 fn operand_moves(s: Shape, x: usize) -> Moves
     requires { ⌜ (17 ≤ x) × (x < 33) ⌝ }
@@ -84,8 +96,9 @@ fn operand_moves(s: Shape, x: usize) -> Moves
             if s.operand < 16 {
                 return Moves::NONE.add(s.operand + 1);
             }
+            return carried(s);
         }
-        return Moves::NONE;
+        return carried(s);
     }
     let y = x - takes + (s.gives as usize);
     if y < 33 {
@@ -180,16 +193,34 @@ fn spread_marks(
     }
 }
 
-// What a walk sees of each instruction of procedure `own`, whose code is the part `code`.
-fn shapes_of(
+// Whether BorrowFld borrows a guarded field.
+fn borrows_guarded(table: &[u8], row: Row, named: TypeEntry) -> bool
+    ensures { λ r. ⌜ r ≡ borrowsGuarded (now (table .entry)) named row ⌝ }
+{
+    if row.a != format::BORROW_FLD {
+        return false;
+    }
+    table::row_at(table, (named.row as usize) + 1 + ((row.b % 8) as usize)).c == 1
+}
+
+// What a walk sees of an instruction.
+fn shape_of(
     table: &[u8],
-    code: &[u8],
-    results: &[bool],
+    row: Row,
     own: ProcedureEntry,
-    index: Index,
-) -> Shapes
+    named: TypeEntry,
+    callee: ProcedureEntry,
+) -> Shape
+    ensures { λ r. ⌜ viewStep r ≡ stepOf (now (table .entry)) (guardedMarks (now (table .entry))) own named callee row ⌝ }
+{
+    let guarded = borrows_guarded(table, row, named);
+    steps::shape_of(table, row, own, named, callee, [guarded; 8], false)
+}
+
+// What a walk sees of each instruction of procedure `own`, whose code is the part `code`.
+fn shapes_of(table: &[u8], code: &[u8], own: ProcedureEntry, index: Index) -> Shapes
     requires { ⌜ (now code ≡ codeOf (now table) own) × (rowCount (now code) ≤ 256) ⌝ }
-    ensures { λ r. ⌜ ((i : ℕ) → i < rowCount (now (code .entry)) → stepsOf r i ≡ stepAt (now (table .entry)) index (givenBy (λ (l : ℕ). false) (now (results .entry))) own i) ⌝ }
+    ensures { λ r. ⌜ ((i : ℕ) → i < rowCount (now (code .entry)) → stepsOf r i ≡ stepAt (now (table .entry)) index (guardedMarks (now (table .entry))) own i) ⌝ }
 {
     let n = code.len() / format::ROW_BYTES;
     let mut at = [Shape::NONE; 256];
@@ -206,7 +237,7 @@ fn shapes_of(
         if called < format::MAX_PROCEDURES {
             callee = index.procedure_entries[called];
         }
-        at[i] = steps::shape_of(table, results, row, own, named, callee);
+        at[i] = shape_of(table, row, own, named, callee);
         i += 1;
     }
     Shapes { at }
@@ -220,7 +251,7 @@ fn makes_no_mark(s: Shape) -> bool
         return false;
     }
     let mut r = 0;
-    while r < 4 {
+    while r < 8 {
         if r < s.gives as usize {
             if s.fresh[r] {
                 return false;
@@ -302,13 +333,13 @@ fn fault_at(nodes: &[bool], shape: Shape, i: usize) -> u8
 {
     if shape.opcode == format::CALL {
         if some_marked(nodes, i, shape.takes as usize) {
-            return 13;
+            return refusals::MARK_GIVEN;
         }
         return 0;
     }
     if shape.opcode == format::RET {
         if some_marked(nodes, i, shape.takes as usize) {
-            return 14;
+            return refusals::MARK_RETURNED;
         }
     }
     0
@@ -332,18 +363,17 @@ fn judge_code(nodes: &[bool], shapes: Shapes, own: ProcedureEntry, n: usize) -> 
 }
 
 // One procedure of a trusted module; one over a limit is passed over, and one in which no mark is made is not searched. `nodes` and `queue` are room
-// to work in, `results` has which procedure's results are given as marked.
+// to work in. Its number does not matter, since no parameter starts marked.
 fn judge_procedure(
     table: &[u8],
     code: &[u8],
-    results: &[bool],
     nodes: &mut [bool],
     queue: &mut [u16],
     own: ProcedureEntry,
     index: Index,
 ) -> Verdict
     requires { ⌜ (now code ≡ codeOf (now table) own) × (8448 ≤ length (now nodes)) × (8448 ≤ length (now queue)) ⌝ }
-    ensures { λ r. ⌜ r ≡ codeVerdict (limited (now (table .entry)) (λ p. leakFrom (now (table .entry)) index (givenBy (λ (l : ℕ). false) (now (results .entry))) p (marksOf (now (table .entry)) index (givenBy (λ (l : ℕ). false) (now (results .entry))) p)) own) (own .code) (rowCount (now (code .entry))) ⌝ }
+    ensures { λ r. ⌜ ((q : ℕ) → r ≡ codeVerdict (limited (now (table .entry)) own (leakFrom (now (table .entry)) index own (marksOf (now (table .entry)) index (guardedMarks (now (table .entry))) q own))) (own .code) (rowCount (now (code .entry)))) ⌝ }
 {
     let n = code.len() / format::ROW_BYTES;
     if program::over_limits(table, own) {
@@ -355,7 +385,7 @@ fn judge_procedure(
     if is_quiet(code, own) {
         return Verdict::Accepted(n);
     }
-    let shapes = shapes_of(table, code, results, own, index);
+    let shapes = shapes_of(table, code, own, index);
     if no_marks_made(shapes, n) {
         return Verdict::Accepted(n);
     }
@@ -379,15 +409,15 @@ fn is_trusted(table: &[u8], row: u16) -> bool
     table::row_at(table, row as usize).a == 1
 }
 
-// The leaks pass over a table with a given index, of the procedures within the limits: those of any table that the rows pass accepts.
-pub fn leaks_with(table: &[u8], index: Index) -> Verdict
-    ensures { λ r. ⌜ r ≡ leaksWithin index (now (table .entry)) ⌝ }
+// The leaks pass from procedure `from` on.
+fn leaks_from(table: &[u8], index: Index, from: usize) -> Verdict
+    requires { ⌜ from ≤ 128 ⌝ }
+    ensures { λ r. ⌜ r ≡ leaksFrom index (now (table .entry)) from ⌝ }
 {
     let rows = table.len() / format::ROW_BYTES;
-    let results = [false; 512];
     let mut nodes = [false; 8448];
     let mut queue = [0u16; 8448];
-    let mut p = 0;
+    let mut p = from;
     while p < format::MAX_PROCEDURES {
         if index.procedures <= p {
             return Verdict::Accepted(rows);
@@ -400,15 +430,7 @@ pub fn leaks_with(table: &[u8], index: Index) -> Verdict
         }
         if is_trusted(table, module_row) {
             let code = table::procedures::part(table, own.code as usize, own.end as usize);
-            let verdict = judge_procedure(
-                table,
-                code,
-                &results,
-                &mut nodes,
-                &mut queue,
-                own,
-                index,
-            );
+            let verdict = judge_procedure(table, code, &mut nodes, &mut queue, own, index);
             if let Verdict::Refused(number, row) = verdict {
                 return Verdict::Refused(number, row);
             }
@@ -416,4 +438,35 @@ pub fn leaks_with(table: &[u8], index: Index) -> Verdict
         p += 1;
     }
     Verdict::Accepted(rows)
+}
+
+// The first procedure in which a mark may be made: those before it are accepted. Their number where there is none.
+fn first_marking(table: &[u8], index: Index) -> usize
+    ensures { λ r. ⌜ (r ≤ 128) × (leaksFrom index (now (table .entry)) 0 ≡ leaksFrom index (now (table .entry)) r) ⌝ }
+{
+    let mut p = 0;
+    while p < format::MAX_PROCEDURES {
+        if index.procedures <= p {
+            return p;
+        }
+        let own = index.procedure_entries[p];
+        let code = table::procedures::part(table, own.code as usize, own.end as usize);
+        if !is_quiet(code, own) {
+            return p;
+        }
+        p += 1;
+    }
+    p
+}
+
+// The leaks pass over a table with a given index, of the procedures within the limits: those of any table that the rows pass accepts. Where no mark is made
+// there is no search, and no room for one is cleared.
+pub fn leaks_with(table: &[u8], index: Index) -> Verdict
+    ensures { λ r. ⌜ r ≡ leaksWithin index (now (table .entry)) ⌝ }
+{
+    let p = first_marking(table, index);
+    if index.procedures <= p {
+        return Verdict::Accepted(table.len() / format::ROW_BYTES);
+    }
+    leaks_from(table, index, p)
 }

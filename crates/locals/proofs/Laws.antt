@@ -21,7 +21,7 @@ use Rattle.table.specs.declared.Verdict.the-variants.{Accepted, Refused}
 use Rattle.table.specs.declared.index.ProcedureEntry.{ProcedureEntry}
 use Rattle.table.specs.Format.{opMvLoc, opCpLoc, opStLoc, opBorrowLoc, opRet}
 use Rattle.table.specs.Rows.{rowCount, rowAt}
-use Rattle.program.specs.Program.{codeOf, codeVerdict, localCount, localKind, isRecord}
+use Rattle.program.specs.Program.{codeOf, codeVerdict, localCount, localKind, isRecord, parameterCount}
 use Rattle.flow.specs.Steps.{below, nextOf, nexts}
 use Rattle.flow.specs.Places.{nodesOf as nodesFrom, succs, localMoves, statusAfter, startStatus, localNodes, reached, canBeEmpty, canBeFull}
 use Rattle.flow.proofs.Paths.{node-div, node-mod}
@@ -31,7 +31,7 @@ use Rattle.spread.specs.Moves.{placesOf, added, GoesOn}
 use Rattle.spread.proofs.Laws.{graph-inside, next-below}
 use Rattle.locals.specs.declared.LocalSet.{LocalSet}
 use Rattle.locals.specs.Sets.{those}
-use Rattle.locals.specs.Locals.{rowStep, bareStep, parameterCount, needsFull, nodesOf, leavesEmpty, leavesFull, leavesRecord, leavesSome, localFault}
+use Rattle.locals.specs.Locals.{rowStep, bareStep, needsFull, nodesOf, leavesEmpty, leavesFull, leavesRecord, leavesSome, localFault}
 use Rattle.locals.specs.Faults.{emptyAt, fullAt, recordAt, someRecord, faultFrom}
 use Rattle.locals.proofs.Sets.{contains-those}
 use Rattle.locals.proofs.Parts.{part-at}

@@ -9,20 +9,17 @@ use Rattle.table.specs.declared.index.ProcedureEntry.{ProcedureEntry}
 use Rattle.table.specs.Format.{opMvLoc, opCpLoc, opStLoc, opBorrowLoc, opRet}
 use Rattle.table.specs.Rows.{rowCount, rowAt}
 use Rattle.table.specs.Index.{indexOf}
-use Rattle.program.specs.Program.{codeOf, codePass, localCount, localKind, parametersEnd, isRecord}
+use Rattle.table.specs.Refusals.{emptyLocal, lostRecord}
+use Rattle.program.specs.Program.{codeOf, codePass, localCount, localKind, parameterCount, isRecord}
 use Rattle.flow.specs.Steps.{Step, nexts}
 use Rattle.flow.specs.Places.{localNodes, canBeEmpty, canBeFull}
 
 -- what locals depend on: opcode and operand
 abbrev pub rowStep : Row → Step
-rowStep row = record { opcode = row .a; operand = row .b; takes = 0; fresh = [] }
+rowStep row = record { opcode = row .a; operand = row .b; takes = 0; fresh = []; carries = false }
 
 abbrev pub bareStep : List ℕ → ℕ → Step
 bareStep c i = rowStep (rowAt c i)
-
--- the number of parameters
-unfoldable pub parameterCount : List ℕ → ProcedureEntry → ℕ
-parameterCount t p = parametersEnd t p - (p .row + 1)
 
 -- opcodes that need their local full: MvLoc, CpLoc, BorrowLoc
 unfoldable pub needsFull : ℕ → Bool
@@ -52,10 +49,10 @@ module _ (t : List ℕ) (p : ProcedureEntry) where
   -- 11: MvLoc, CpLoc or BorrowLoc on a local that some walk leaves empty; 12: StLoc where some walk leaves a record in that local, or Ret in any
   unfoldable pub localFault : ℕ → ℕ
   localFault i =
-      cond (needsFull (rowAt (codeOf t p) i .a) && leavesEmpty (rowAt (codeOf t p) i .b) i) 11
-      (cond (eqb (rowAt (codeOf t p) i .a) opStLoc && leavesRecord (rowAt (codeOf t p) i .b) i) 12
-      (cond (eqb (rowAt (codeOf t p) i .a) opRet && leavesSome (localCount p) i) 12 0))
+      cond (needsFull (rowAt (codeOf t p) i .a) && leavesEmpty (rowAt (codeOf t p) i .b) i) emptyLocal
+      (cond (eqb (rowAt (codeOf t p) i .a) opStLoc && leavesRecord (rowAt (codeOf t p) i .b) i) lostRecord
+      (cond (eqb (rowAt (codeOf t p) i .a) opRet && leavesSome (localCount p) i) lostRecord 0))
 
 -- the locals pass over a table
 unfoldable pub localsOf : List ℕ → Verdict
-localsOf t = codePass (localFault t) (indexOf t) t
+localsOf t = codePass (λ (q : ℕ). localFault t) (indexOf t) t

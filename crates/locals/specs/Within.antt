@@ -4,10 +4,11 @@ use Prim.Native.Nat.{ℕ}
 use mathlib.Core.List.{List}
 use Rattle.table.specs.declared.Verdict.{Verdict}
 use Rattle.table.specs.declared.index.Index.{Index}
+use Rattle.table.specs.declared.index.ProcedureEntry.{ProcedureEntry}
 use Rattle.program.specs.Program.{codePass}
 use Rattle.program.specs.Limits.{limited}
 use Rattle.locals.specs.Locals.{localFault}
 
 -- the pass over the procedures of the index that are within the limits
 unfoldable pub localsWithin : Index → List ℕ → Verdict
-localsWithin ix t = codePass (limited t (localFault t)) ix t
+localsWithin ix t = codePass (λ (q : ℕ) (p : ProcedureEntry). limited t p (localFault t p)) ix t

@@ -5,11 +5,11 @@ ghost use Prim.Native.Nat.{ℕ, _+_, _*_, _≤_, _<_};
 ghost use lib.Dec.{ltb};
 ghost use lib.ListN.{length, take, drop};
 ghost use Rattle.table.specs.Rows.{rowAt, rowCount};
-ghost use Rattle.program.specs.Program.{isRecord, localKind, codeOf, codeVerdict};
+ghost use Rattle.program.specs.Program.{isRecord, localKind, codeOf, codeVerdict, parameterCount};
 ghost use Rattle.program.specs.Limits.{limited};
 ghost use Rattle.flow.specs.Places.{statusAfter, startStatus};
 ghost use Rattle.locals.specs.Sets.{inserted, contains, those};
-ghost use Rattle.locals.specs.Locals.{rowStep, parameterCount, needsFull, nodesOf, localFault};
+ghost use Rattle.locals.specs.Locals.{rowStep, needsFull, nodesOf, localFault};
 ghost use Rattle.locals.specs.Faults.{emptyAt, fullAt, recordAt, someRecord, faultFrom};
 ghost use Rattle.locals.specs.Within.{localsWithin};
 use spread::Moves;
@@ -18,6 +18,7 @@ use table::Verdict;
 use table::format;
 use table::index::Index;
 use table::index::ProcedureEntry;
+use table::refusals;
 
 // A set of locals.
 pub struct LocalSet {
@@ -254,19 +255,19 @@ fn fault_at(nodes: &[bool], row: Row, n: usize, count: usize, records: LocalSet,
     let b = row.b as usize;
     if needs_full(opcode) {
         if leaves_empty(nodes, n, count, b, i) {
-            return 11;
+            return refusals::EMPTY_LOCAL;
         }
         return 0;
     }
     if opcode == format::ST_LOC {
         if leaves_record(nodes, n, count, records, b, i) {
-            return 12;
+            return refusals::LOST_RECORD;
         }
         return 0;
     }
     if opcode == format::RET {
         if leaves_some(nodes, n, count, records, i) {
-            return 12;
+            return refusals::LOST_RECORD;
         }
     }
     0
@@ -305,7 +306,7 @@ fn judge_procedure(
     own: ProcedureEntry,
 ) -> Verdict
     requires { ⌜ (now code ≡ codeOf (now table) own) × (8192 ≤ length (now nodes)) × (512 ≤ length (now queue)) ⌝ }
-    ensures { λ r. ⌜ r ≡ codeVerdict (limited (now (table .entry)) (localFault (now (table .entry))) own) (own .code) (rowCount (now (code .entry))) ⌝ }
+    ensures { λ r. ⌜ r ≡ codeVerdict (limited (now (table .entry)) own (localFault (now (table .entry)) own)) (own .code) (rowCount (now (code .entry))) ⌝ }
 {
     let n = code.len() / format::ROW_BYTES;
     if program::over_limits(table, own) {

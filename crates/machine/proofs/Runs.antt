@@ -11,7 +11,7 @@ use Rattle.table.specs.Index.{indexOf}
 use Rattle.program.specs.Program.{number, procedureIn, localCount, localKind}
 use Rattle.kinds.specs.Effects.{Effect}
 use Rattle.operands.specs.Flow.{effectIn}
-use Rattle.steps.specs.Steps.{nothingGiven, stepAt}
+use Rattle.leaks.specs.Leaks.{guardedMarks}
 use Rattle.walks.proofs.Regular.{step-takes}
 use Rattle.judged.specs.Judged.{Judged}
 use Rattle.rules.specs.Machine.{Value, Cell, Entry, Frame, frame, State, state, Outcome, next, finished, stopped, stuck}
@@ -33,7 +33,7 @@ use Rattle.machine.proofs.Simulates.{taken-split, split-shows, same-doi
 takes-same : (t : List ℕ) (p i : ℕ) (ops : List Value) → length (effectAt t (indexOf t) p i ops .takes) ≡ takesAt t (indexOf t) p i
 unfolding effectAt takesAt
 takes-same t p i ops =
-    sym (step-takes t (indexOf t) nothingGiven (procedureIn (indexOf t) p) (topKind ops) i) ∙ step-takes t (indexOf t) nothingGiven (procedureIn (indexOf t) p) number i
+    sym (step-takes t (indexOf t) (guardedMarks t) (procedureIn (indexOf t) p) (topKind ops) i) ∙ step-takes t (indexOf t) (guardedMarks t) (procedureIn (indexOf t) p) number i
 
 -- the machine's instruction does what the rules' does
 pub same-step : (t : List ℕ) {R D : List ℕ} {f : MFrame} {ms : List MFrame} {rooms : List (Option MRoom)} {recs : ℕ} {es : List MEntry} {n : ℕ} {fs : List Frame} {rs : List Cell} {st : List Entry} {m : ℕ}

@@ -18,7 +18,7 @@ use Rattle.table.specs.Format.{typeKind, fieldKind, procedureKind, localKind, r
 use Rattle.table.specs.Rows.{rowCount, rowAt, kindAt, isKind}
 use Rattle.program.specs.Program.{typeIn, procedureIn}
 use Rattle.program.proofs.Passes.{refused-accepted, unfaulted}
-use Rattle.names.specs.Names.{Named, nothing, localNumber, fieldNumber, typeNumber, procedureNumber, target, missing, badEnd, hasType, notLower, noSuchType, noSuchName, nameFault, faultAt, namesWith}
+use Rattle.names.specs.Names.{Named, nothing, localNumber, fieldNumber, typeNumber, procedureNumber, target, missing, badEnd, notLower, noSuchType, noSuchName, nameFault, faultAt, namesWith}
 use Rattle.names.specs.Exist.{Exists, Good}
 
 -- a number that is one of two
@@ -45,7 +45,7 @@ exists ix p b target e = leb-false _ _ e
 
 -- a row without fault is good
 row-good : (t : List ℕ) (ix : Index) (i : ℕ) → faultAt t ix i ≡ 0 → Good t ix i
-unfolding faultAt nameFault badEnd notLower noSuchType hasType noSuchName kindAt
+unfolding faultAt nameFault badEnd notLower noSuchType noSuchName kindAt
 row-good t ix i e =
     let starts = procedureIn ix (count (isKind t procedureKind) i) in
     let above = count (isKind t typeKind) i in
@@ -59,7 +59,7 @@ row-good t ix i e =
       ends = λ k. let h = neither (leb (starts .end) (starts .code)) _ .0 (rw (eq-eqb (row .kind) procedureKind k) at e₁ .0) in
           (leb-false _ _ (h .0), one-of _ _ _ (not-false _ (h .1)));
       lower = λ k a. leb-false _ _ (rw (eq-eqb (row .kind) fieldKind k, eq-eqb (row .a) recordSort a) at e₂ .0);
-      declared = λ k a. leb-false _ _ (rw (is-one-of (row .kind) localKind resultKind k, is-one-of (row .a) recordSort recordReference a) at e₃ .0);
+      declared = λ k a. leb-false _ _ (rw (is-one-of (row .kind) localKind resultKind k, a) at e₃ .0);
       named = λ k. exists ix own (row .b) _ (rw (eq-eqb (row .kind) instructionKind k) at e₄ .0);
     }
 
@@ -67,8 +67,3 @@ row-good t ix i e =
 pub names-good : (t : List ℕ) (ix : Index) (n : ℕ) → namesWith ix t ≡ Accepted n → (i : ℕ) → i < rowCount t → Good t ix i
 unfolding namesWith
 names-good t ix n e i h = row-good t ix i (all-fine Accepted Refused (faultAt t ix) (λ n k i. refused-accepted) n 0 (rowCount t) e i (omega arith) (omega arith))
-
--- a table without faulty row is accepted
-pub names-clean : (t : List ℕ) (ix : Index) → ((i : ℕ) → i < rowCount t → faultAt t ix i ≡ 0) → namesWith ix t ≡ Accepted (rowCount t)
-unfolding namesWith
-names-clean t ix h = rw zero-add at (clean-if Accepted Refused (faultAt t ix) 0 (rowCount t) (λ i lo hi. h i (omega arith)))

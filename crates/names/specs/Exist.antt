@@ -1,6 +1,7 @@
 -- What the names pass gives for each row of an accepted table.
 use Prim.Native.Nat.{ℕ, _+_, _-_, _/_, _%_, _<_}
 use mathlib.Core.Path.{_≡_}
+use mathlib.Core.Bool.{true}
 use mathlib.Core.Logic.{_⊎_}
 use mathlib.Core.List.{List}
 use lib.ListN.{getD}
@@ -8,7 +9,8 @@ use Rattle.laws.specs.Lists.{count}
 use Rattle.table.specs.declared.Row.{Row}
 use Rattle.table.specs.declared.index.Index.{Index}
 use Rattle.table.specs.declared.index.ProcedureEntry.{ProcedureEntry}
-use Rattle.table.specs.Format.{typeKind, fieldKind, procedureKind, localKind, resultKind, instructionKind, recordSort, recordReference, opRet, opBranch}
+use Rattle.table.specs.Format.{typeKind, fieldKind, procedureKind, localKind, resultKind, instructionKind, recordSort, opRet, opBranch}
+use Rattle.table.specs.Flags.{hasType}
 use Rattle.table.specs.Rows.{rowAt, kindAt, isKind}
 use Rattle.program.specs.Program.{typeIn, procedureIn, fieldCount, localCount, codeLength}
 use Rattle.names.specs.Names.{Named, nothing, localNumber, fieldNumber, typeNumber, procedureNumber, target, names}
@@ -31,6 +33,6 @@ pub record Good (t : List ℕ) (ix : Index) (i : ℕ) : Type 0 where
   -- a field's type is lower than its own
   pub lower : kindAt t i ≡ fieldKind → rowAt t i .a ≡ recordSort → rowAt t i .b < count (isKind t typeKind) i - 1
   -- the type of a local or a result exists
-  pub declared : (kindAt t i ≡ localKind) ⊎ (kindAt t i ≡ resultKind) → (rowAt t i .a ≡ recordSort) ⊎ (rowAt t i .a ≡ recordReference) → rowAt t i .b < ix .types
+  pub declared : (kindAt t i ≡ localKind) ⊎ (kindAt t i ≡ resultKind) → hasType (rowAt t i .a) ≡ true → rowAt t i .b < ix .types
   -- what an instruction names exists
   pub named : kindAt t i ≡ instructionKind → Exists ix (procedureIn ix (count (isKind t procedureKind) i - 1)) (rowAt t i .b) (getD names (rowAt t i .a) nothing)

@@ -10,10 +10,12 @@ use Rattle.table.specs.declared.Verdict.{Verdict}
 use Rattle.table.specs.declared.index.Index.{Index}
 use Rattle.table.specs.declared.index.ProcedureEntry.{ProcedureEntry}
 use Rattle.table.specs.declared.index.TypeEntry.{TypeEntry}
-use Rattle.table.specs.Format.{typeKind, fieldKind, procedureKind, localKind, resultKind, instructionKind, recordSort, recordReference, opRet, opBranch}
+use Rattle.table.specs.Format.{typeKind, fieldKind, procedureKind, localKind, resultKind, instructionKind, recordSort, opRet, opBranch}
+use Rattle.table.specs.Flags.{hasType}
 use Rattle.table.specs.Rows.{rowCount, rowAt, isKind}
 use Rattle.table.specs.Verdicts.{passOver}
 use Rattle.table.specs.Index.{indexOf}
+use Rattle.table.specs.Refusals.{openEnd, notDeclared}
 use Rattle.program.specs.Program.{typeIn, procedureIn, fieldCount, localCount, codeLength}
 
 -- what the operand B of an instruction names
@@ -47,10 +49,6 @@ missing types procedures y p b target = leb (codeLength p) b
 unfoldable pub badEnd : List ℕ → ProcedureEntry → Bool
 badEnd t p = leb (p .end) (p .code) || not (eqb (rowAt t (p .end - 1) .a) opRet || eqb (rowAt t (p .end - 1) .a) opBranch)
 
--- whether a sort has a type
-unfoldable pub hasType : ℕ → Bool
-hasType sort = eqb sort recordSort || eqb sort recordReference
-
 -- 6: a field's type that is not lower than its own, where y types begin above
 unfoldable pub notLower : ℕ → Row → Bool
 notLower y row = eqb (row .kind) fieldKind && eqb (row .a) recordSort && leb (y - 1) (row .b)
@@ -67,10 +65,10 @@ noSuchName types procedures y p row = eqb (row .kind) instructionKind && missing
 -- `own` the procedure that the row stands in, `starts` the one that starts at the row
 unfoldable pub nameFault : List ℕ → ℕ → ℕ → ℕ → TypeEntry → ProcedureEntry → ProcedureEntry → Row → ℕ
 nameFault t types procedures above named own starts row =
-    cond (eqb (row .kind) procedureKind && badEnd t starts) 5
-    (cond (notLower above row) 6
-    (cond (noSuchType types row) 6
-    (cond (noSuchName types procedures named own row) 6 0)))
+    cond (eqb (row .kind) procedureKind && badEnd t starts) openEnd
+    (cond (notLower above row) notDeclared
+    (cond (noSuchType types row) notDeclared
+    (cond (noSuchName types procedures named own row) notDeclared 0)))
 
 -- the same of row i of a table with this index
 unfoldable pub faultAt : List ℕ → Index → ℕ → ℕ

@@ -7,13 +7,15 @@ ghost use lib.ListN.{getD};
 ghost use mathlib.Core.Bool.{_&&_};
 ghost use Rattle.table.specs.Format.{procedureKind};
 ghost use Rattle.program.specs.Program.{fieldCount};
-ghost use Rattle.names.specs.Names.{namesOf, namesWith, badEnd, hasType, notLower, noSuchType, noSuchName, names, nothing, noSuchField, missing, nameFault};
+ghost use Rattle.table.specs.Flags.{hasType};
+ghost use Rattle.names.specs.Names.{namesWith, badEnd, notLower, noSuchType, noSuchName, names, nothing, noSuchField, missing, nameFault};
 use table::Row;
 use table::Verdict;
 use table::format;
 use table::index::Index;
 use table::index::ProcedureEntry;
 use table::index::TypeEntry;
+use table::refusals;
 
 // Whether a sort has a type.
 fn has_type(sort: u8) -> bool
@@ -156,16 +158,16 @@ fn name_fault(table: &[u8], row: Row, s: Scope) -> u8
     let starts = s.starts;
     let named = s.named;
     if bad_start(table, row, starts) {
-        return 5;
+        return refusals::OPEN_END;
     }
     if bad_field(row, s.above) {
-        return 6;
+        return refusals::NOT_DECLARED;
     }
     if bad_declared(row, s.types) {
-        return 6;
+        return refusals::NOT_DECLARED;
     }
     if bad_name(row, s.types, s.procedures, named, own) {
-        return 6;
+        return refusals::NOT_DECLARED;
     }
     0
 }
@@ -230,11 +232,4 @@ pub fn names_with(table: &[u8], index: Index) -> Verdict
         i += 1;
     }
     Verdict::Accepted(n)
-}
-
-// The names pass.
-pub fn names_pass(table: &[u8]) -> Verdict
-    ensures { λ r. ⌜ r ≡ namesOf (now (table .entry)) ⌝ }
-{
-    names_with(table, table::index::index_of(table))
 }

@@ -179,7 +179,7 @@ flow-here t ix p i e =
 -- no instruction of an accepted table is faulty
 pub code-fine : (t : List ℕ) (ix : Index) (n : ℕ) → operandsWith ix t ≡ Accepted n → (q : ℕ) → q < ix .procedures → q < length (ix .«procedure_entries») → (i : ℕ) → i < rowCount (codeOf t (procedureIn ix q)) → codeFault t ix (procedureIn ix q) i ≡ 0
 unfolding operandsWith
-code-fine t ix n e = pass-fine (codeFault t ix) ix t n e
+code-fine t ix n e = pass-fine (λ (q : ℕ). codeFault t ix) ix t n e
 
 -- at every instruction of an accepted table what is taken is there, and what is pushed is there for the next
 pub operands-flow : (t : List ℕ) (ix : Index) (n : ℕ) → operandsWith ix t ≡ Accepted n → (q : ℕ) → q < ix .procedures → q < length (ix .«procedure_entries») → (i : ℕ) → i < rowCount (codeOf t (procedureIn ix q)) → Flow t ix (procedureIn ix q) i

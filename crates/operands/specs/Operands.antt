@@ -11,6 +11,7 @@ use Rattle.table.specs.declared.index.ProcedureEntry.{ProcedureEntry}
 use Rattle.table.specs.Format.{opBorrowFld, opExists, opCall, opRet, opBranchCond}
 use Rattle.table.specs.Rows.{rowCount, rowAt}
 use Rattle.table.specs.Index.{indexOf}
+use Rattle.table.specs.Flags.{isPublic}
 use Rattle.program.specs.Program.{typeIn, procedureIn, codeOf, codePass, isTarget}
 use Rattle.kinds.specs.Kinds.{Kinds, good, faultAfter}
 use Rattle.kinds.specs.Effects.{kindsAfter}
@@ -33,7 +34,7 @@ foreignType op named own = leb opBorrowFld op && leb op opExists && not (eqb (na
 unfoldable pub foreign : List ℕ → ProcedureEntry → TypeEntry → ProcedureEntry → Row → Bool
 foreign t own named callee row =
     foreignType (row .a) named own
-    || (eqb (row .a) opCall && not (eqb (rowAt t (callee .row) .a) 1) && not (eqb (callee .owner) (own .owner)))
+    || (eqb (row .a) opCall && not (isPublic (rowAt t (callee .row))) && not (eqb (callee .owner) (own .owner)))
 
 -- of procedure p, whose code is c, in a table with this index
 module _ (t : List ℕ) (ix : Index) (p : ProcedureEntry) where
@@ -54,7 +55,7 @@ module _ (t : List ℕ) (ix : Index) (p : ProcedureEntry) where
 
 -- the operands pass over a table with a given index, and with its own
 unfoldable pub operandsWith : Index → List ℕ → Verdict
-operandsWith ix t = codePass (codeFault t ix) ix t
+operandsWith ix t = codePass (λ (q : ℕ). codeFault t ix) ix t
 
 unfoldable pub operandsOf : List ℕ → Verdict
 operandsOf t = operandsWith (indexOf t) t

@@ -6,7 +6,7 @@ ghost use lib.Dec.{eqb, leb};
 ghost use Rattle.table.specs.Format.{opBorrowFld, opBranch, opBranchCond};
 ghost use Rattle.table.specs.Rows.{rowCount};
 ghost use Rattle.program.specs.Program.{jumpsTo, isTarget, targetMarks, Marked, codeOf, codeVerdict};
-ghost use Rattle.operands.specs.Operands.{foreignType, foreign, endsBlock, codeFault, operandsWith, operandsOf};
+ghost use Rattle.operands.specs.Operands.{foreignType, foreign, endsBlock, codeFault, operandsWith};
 use kinds::Stack;
 use table::Row;
 use table::Verdict;
@@ -218,11 +218,4 @@ pub fn operands_with(table: &[u8], index: Index) -> Verdict
         p += 1;
     }
     Verdict::Accepted(rows)
-}
-
-// The operands pass.
-pub fn operands_pass(table: &[u8]) -> Verdict
-    ensures { λ r. ⌜ r ≡ operandsOf (now (table .entry)) ⌝ }
-{
-    operands_with(table, table::index::index_of(table))
 }

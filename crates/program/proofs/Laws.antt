@@ -41,13 +41,13 @@ abbrev pub proceduresOf : Index → List ProcedureEntry
 proceduresOf ix = take (ix .procedures) (ix .«procedure_entries»)
 
 -- A pass over procedures, from procedure number p on.
-module _ (fault : ProcedureEntry → ℕ → ℕ) (ix : Index) (t : List ℕ) where
+module _ (fault : ℕ → ProcedureEntry → ℕ → ℕ) (ix : Index) (t : List ℕ) where
   unfoldable pub passFrom : ℕ → Verdict
-  passFrom p = overProcedures fault t (drop p (proceduresOf ix))
+  passFrom p = overProcedures fault t p (drop p (proceduresOf ix))
 
   -- the verdict on one procedure
-  unfoldable pub verdictOf : ProcedureEntry → Verdict
-  verdictOf own = codeVerdict (fault own) (own .code) (rowCount (codeOf t own))
+  unfoldable pub verdictOf : ℕ → ProcedureEntry → Verdict
+  verdictOf p own = codeVerdict (fault p own) (own .code) (rowCount (codeOf t own))
 
   pub pass-start : codePass fault ix t ≡ passFrom 0
   unfolding codePass passFrom
@@ -57,15 +57,15 @@ module _ (fault : ProcedureEntry → ℕ → ℕ) (ix : Index) (t : List ℕ) wh
   unfolding passFrom overProcedures
   pass-end p h = rw (drop-of-length-le (proceduresOf ix) {i = p} h)
 
-  next : (p : ℕ) → p < length (proceduresOf ix) → passFrom p ≡ andThen (verdictOf (getD (proceduresOf ix) p noProcedure)) (passFrom (p + 1))
+  next : (p : ℕ) → p < length (proceduresOf ix) → passFrom p ≡ andThen (verdictOf p (getD (proceduresOf ix) p noProcedure)) (passFrom (p + 1))
   unfolding passFrom overProcedures verdictOf
   next p h = rw (drop-cons (proceduresOf ix) p noProcedure h, add-one)
 
   -- a procedure that is refused, and one that is accepted
-  pub pass-refused : (p number row : ℕ) (own : ProcedureEntry) → p < length (proceduresOf ix) → own ≡ getD (proceduresOf ix) p noProcedure → verdictOf own ≡ Refused number row → passFrom p ≡ Refused number row
+  pub pass-refused : (p number row : ℕ) (own : ProcedureEntry) → p < length (proceduresOf ix) → own ≡ getD (proceduresOf ix) p noProcedure → verdictOf p own ≡ Refused number row → passFrom p ≡ Refused number row
   pass-refused p number row own h e q = next p h ∙ rw (← e, q)
 
-  pub pass-on : (p n : ℕ) (own : ProcedureEntry) → p < length (proceduresOf ix) → own ≡ getD (proceduresOf ix) p noProcedure → verdictOf own ≡ Accepted n → passFrom p ≡ passFrom (p + 1)
+  pub pass-on : (p n : ℕ) (own : ProcedureEntry) → p < length (proceduresOf ix) → own ≡ getD (proceduresOf ix) p noProcedure → verdictOf p own ≡ Accepted n → passFrom p ≡ passFrom (p + 1)
   pass-on p n own h e q = next p h ∙ rw (← e, q)
 
 -- jump targets
@@ -118,9 +118,10 @@ module _ (ix : Index) (size : length (ix .«procedure_entries») ≡ 128) where
   passes-entry p h = sym (getD-take (ix .procedures) (ix .«procedure_entries») p noProcedure h)
 
 -- a verdict on the part that is a procedure's code
-pub on-part : (fault : ProcedureEntry → ℕ → ℕ) (ix : Index) (t c : List ℕ) (own : ProcedureEntry) (v : Verdict) → c ≡ codeOf t own → v ≡ codeVerdict (fault own) (own .code) (rowCount c) → verdictOf fault ix t own ≡ v
+pub on-part : (fault : ℕ → ProcedureEntry → ℕ → ℕ) (ix : Index) (t c : List ℕ) (p : ℕ) (own : ProcedureEntry) (v : Verdict) → c ≡ codeOf t own → v ≡ codeVerdict (fault p own) (own .code) (rowCount c)
+    → verdictOf fault ix t p own ≡ v
 unfolding verdictOf
-on-part fault ix t c own v e q = sym (rw e at q)
+on-part fault ix t c p own v e q = sym (rw e at q)
 
 -- Procedures over a limit and within the limits, and faults that are looked for in the latter only.
 module _ (t : List ℕ) (p : ProcedureEntry) where
@@ -137,11 +138,11 @@ module _ (t : List ℕ) (p : ProcedureEntry) where
   unfolding overLimits
   limits-hold h k = rw (le-ltb 16 (localCount p) h, le-ltb 256 (rowCount (codeOf t p)) k)
 
-  module _ (fault : ProcedureEntry → ℕ → ℕ) where
-    pub limited-in : overLimits t p ≡ false → limited t fault p ≡ fault p
+  module _ (fault : ℕ → ℕ) where
+    pub limited-in : overLimits t p ≡ false → limited t p fault ≡ fault
     unfolding limited
     limited-in e = rw e
 
-    pub limited-out : overLimits t p ≡ true → codeVerdict (limited t fault p) (p .code) (rowCount (codeOf t p)) ≡ Accepted (rowCount (codeOf t p))
+    pub limited-out : overLimits t p ≡ true → codeVerdict (limited t p fault) (p .code) (rowCount (codeOf t p)) ≡ Accepted (rowCount (codeOf t p))
     unfolding limited codeVerdict
     limited-out e = clean-if Accepted _ _ 0 (rowCount (codeOf t p)) (λ j lo hi. rw e) ∙ ap Accepted (zero-add (rowCount (codeOf t p)))

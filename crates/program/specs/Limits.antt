@@ -13,6 +13,6 @@ use Rattle.program.specs.Program.{localCount, codeOf}
 unfoldable pub overLimits : List ℕ → ProcedureEntry → Bool
 overLimits t p = ltb maxLocals (localCount p) || ltb maxInstructions (rowCount (codeOf t p))
 
--- faults that are looked for in the other procedures only
-unfoldable pub limited : List ℕ → (ProcedureEntry → ℕ → ℕ) → ProcedureEntry → ℕ → ℕ
-limited t fault p = cond (overLimits t p) (λ (i : ℕ). 0) (fault p)
+-- the faults of a procedure that are looked for: none in one over a limit
+unfoldable pub limited : List ℕ → ProcedureEntry → (ℕ → ℕ) → ℕ → ℕ
+limited t p fault = cond (overLimits t p) (λ (i : ℕ). 0) fault

@@ -15,6 +15,7 @@ use Rattle.table.specs.declared.index.Index.{Index}
 use Rattle.table.specs.declared.index.TypeEntry.{TypeEntry}
 use Rattle.table.specs.declared.index.ProcedureEntry.{ProcedureEntry}
 use Rattle.table.specs.Format.{numberSort, recordSort, numberReference, recordReference, opBranch, opBranchCond, maxLocals, maxInstructions}
+use Rattle.table.specs.Flags
 use Rattle.table.specs.Rows.{rowAt, rowCount}
 use Rattle.table.specs.Verdicts.{andThen}
 use Rattle.table.specs.Index.{noType, noProcedure}
@@ -84,12 +85,15 @@ localCount p = p .results - (p .row + 1)
 unfoldable pub localKind : List ℕ → ProcedureEntry → ℕ → ℕ
 localKind t p l = rowKind (rowAt t (p .row + 1 + l))
 
--- the parameters stand first among the locals: the row after the last, and their kinds
+-- the parameters stand first among the locals: the row after the last, how many there are, and their kinds
 unfoldable pub isParameter : List ℕ → ℕ → Bool
-isParameter t i = eqb (rowAt t i .c) 1
+isParameter t i = Flags.isParameter (rowAt t i)
 
 unfoldable pub parametersEnd : List ℕ → ProcedureEntry → ℕ
 parametersEnd t p = find (λ (i : ℕ). not (isParameter t i)) (p .row + 1) (p .results - (p .row + 1))
+
+unfoldable pub parameterCount : List ℕ → ProcedureEntry → ℕ
+parameterCount t p = parametersEnd t p - (p .row + 1)
 
 unfoldable pub parameterKinds : List ℕ → ProcedureEntry → List ℕ
 parameterKinds t p = kindsOf t (p .row + 1) (parametersEnd t p)
@@ -105,17 +109,21 @@ codeOf t p = partOf t (p .code) (p .end)
 unfoldable pub codeLength : ProcedureEntry → ℕ
 codeLength p = p .end - p .code
 
--- A pass over instructions: `fault p i` is the lowest number that instruction i of procedure p earns, 0 for none. It goes through the procedures in
--- table order and through each one's instructions, so that it refuses at the lowest faulty row.
+-- instruction i of procedure q
+abbrev pub instructionIn : List ℕ → Index → ℕ → ℕ → Row
+instructionIn t ix q i = rowAt (codeOf t (procedureIn ix q)) i
+
+-- A pass over instructions: `fault q p i` is the lowest number that instruction i of procedure q earns, whose entry is p; 0 for none. It goes through the
+-- procedures in table order and through each one's instructions, so that it refuses at the lowest faulty row.
 unfoldable pub codeVerdict : (ℕ → ℕ) → ℕ → ℕ → Verdict
 codeVerdict fault start n = firstFault Accepted (λ (number i : ℕ). Refused number (start + i)) fault 0 n
 
-unfoldable pub overProcedures : (ProcedureEntry → ℕ → ℕ) → List ℕ → List ProcedureEntry → Verdict
-overProcedures fault t [] = Accepted (rowCount t)
-overProcedures fault t (p ∷ ps) = andThen (codeVerdict (fault p) (p .code) (rowCount (codeOf t p))) (overProcedures fault t ps)
+unfoldable pub overProcedures : (ℕ → ProcedureEntry → ℕ → ℕ) → List ℕ → ℕ → List ProcedureEntry → Verdict
+overProcedures fault t q [] = Accepted (rowCount t)
+overProcedures fault t q (p ∷ ps) = andThen (codeVerdict (fault q p) (p .code) (rowCount (codeOf t p))) (overProcedures fault t (q + 1) ps)
 
-unfoldable pub codePass : (ProcedureEntry → ℕ → ℕ) → Index → List ℕ → Verdict
-codePass fault ix t = overProcedures fault t (take (ix .procedures) (ix .«procedure_entries»))
+unfoldable pub codePass : (ℕ → ProcedureEntry → ℕ → ℕ) → Index → List ℕ → Verdict
+codePass fault ix t = overProcedures fault t 0 (take (ix .procedures) (ix .«procedure_entries»))
 
 -- Jumps: whether some one of the first n instructions of the code c jumps to instruction j, by Branch or BranchCond, reached or not
 unfoldable pub jumpsTo : Row → ℕ → Bool

@@ -9,7 +9,7 @@ use native.Mathlib.Decide.{decLe}
 use native.Mathlib.Omega.{arith}
 use lib.ListN.{length, getD, set, replicate, length-set}
 use lib.Seq.{getD-set-same, ext-getD}
-use Rattle.reach.specs.Reach.{Mem, here, there, At, Inside, Walk, start, step, Reached, mark, push, sweep, iter, countTrue}
+use Rattle.reach.specs.Reach.{Mem, here, there, At, Inside, Walk, start, step, Reached, mark, push, sweep, rounds, iter, countTrue}
 
 -- Sets.
 
@@ -109,6 +109,40 @@ grow (true ∷ s) (false ∷ t) e h = absurd (false≢true (h 0 refl))
 grow (false ∷ s) (true ∷ t) e h = ⊎-elim (λ a. inl (omega arith)) (λ a. inl (omega (arith, ap countTrue a))) (grow s t (omega arith) (λ v. h (suc v)))
 grow (false ∷ s) (false ∷ t) e h = ⊎-elim (λ a. inl (omega arith)) (λ a. inr (rw a refl)) (grow s t (omega arith) (λ v. h (suc v)))
 
+-- Rounds of a function on sets.
+module _ (f : List Bool → List Bool) where
+  -- a round that the function does not change is every later round
+  pub stays : (s : List Bool) (k n : ℕ) → f (rounds f k s) ≡ rounds f k s → k ≤ n → rounds f k s ≡ rounds f n s
+  unfolding rounds
+  stays s k n e h = let z : n - k + k ≡ n = omega arith in sym (rw z at (later (n - k)))
+    where
+      later : (j : ℕ) → rounds f (j + k) s ≡ rounds f k s
+      later zero = rw zero-add refl
+      later (suc j) = rw suc-add (ap f (later j) ∙ e)
+
+  -- of one that keeps the number of nodes and what is there
+  module _ (sized : (s : List Bool) → length (f s) ≡ length s) (keeps : (s : List Bool) (v : ℕ) → At s v → At (f s) v) where
+    pub length-rounds : (k : ℕ) (s : List Bool) → length (rounds f k s) ≡ length s
+    unfolding rounds
+    length-rounds zero s = refl
+    length-rounds (suc k) s = sized (rounds f k s) ∙ length-rounds k s
+
+    grows : (s : List Bool) (k : ℕ) → (countTrue (rounds f k s) < countTrue (f (rounds f k s))) ⊎ (f (rounds f k s) ≡ rounds f k s)
+    grows s k = grow (rounds f k s) (f (rounds f k s)) (sym (sized (rounds f k s))) (keeps (rounds f k s))
+
+    -- the rounds grow until one is not changed
+    chain : (s : List Bool) (k : ℕ) → (f (rounds f k s) ≡ rounds f k s) ⊎ (k ≤ countTrue (rounds f k s))
+    unfolding rounds
+    chain s zero = inr (omega arith)
+    chain s (suc k) = ⊎-elim (λ e. inl (ap f e)) (λ l. ⊎-elim (λ a. inr (omega arith)) (λ e. inl (ap f e)) (grows s k)) (chain s k)
+
+    -- so the round numbered as there are nodes is stable
+    pub settles : (s : List Bool) → f (rounds f (length s) s) ≡ rounds f (length s) s
+    settles s = ⊎-elim (λ e. e) (λ l. ⊎-elim (λ a. absurd (omega (arith, few))) (λ e. e) (grows s (length s))) (chain s (length s))
+      where
+        few : countTrue (f (rounds f (length s) s)) ≤ length s
+        few = omega (arith, count-le (f (rounds f (length s) s)), sized (rounds f (length s) s), length-rounds (length s) s)
+
 module _ (succs : ℕ → List ℕ) where
   -- One sweep.
 
@@ -166,13 +200,11 @@ module _ (succs : ℕ → List ℕ) where
   -- Rounds.
 
   pub length-iter : (k : ℕ) (s : List Bool) → length (iter succs k s) ≡ length s
-  unfolding iter
-  length-iter zero s = refl
-  length-iter (suc k) s = length-sweep (iter succs k s) ∙ length-iter k s
+  length-iter = length-rounds (sweep succs) length-sweep sweep-old
 
   -- soundness: what is in round k ends a walk of at most k steps
   pub sound : (k : ℕ) (s : List Bool) (v : ℕ) → At (iter succs k s) v → (j : ℕ) × (j ≤ k) × Walk succs s j v
-  unfolding iter
+  unfolding rounds
   sound zero s v h = (0, omega arith, start h)
   sound (suc k) s v h =
       ⊎-elim
@@ -180,34 +212,13 @@ module _ (succs : ℕ → List ℕ) where
       (λ t. let r = sound k s (t .0) (t .1) in (suc (r .0), omega arith, step (r .2) (t .2)))
       (sweep-inv (iter succs k s) v h)
 
-  -- a round that a sweep does not change is every later round
-  pub stays : (s : List Bool) (k n : ℕ) → sweep succs (iter succs k s) ≡ iter succs k s → k ≤ n → iter succs k s ≡ iter succs n s
-  unfolding iter
-  stays s k n e h = let z : n - k + k ≡ n = omega arith in sym (rw z at (later (n - k)))
-    where
-      later : (j : ℕ) → iter succs (j + k) s ≡ iter succs k s
-      later zero = rw zero-add refl
-      later (suc j) = rw suc-add (ap (sweep succs) (later j) ∙ e)
-
-  grows : (s : List Bool) (k : ℕ) → (countTrue (iter succs k s) < countTrue (sweep succs (iter succs k s))) ⊎ (sweep succs (iter succs k s) ≡ iter succs k s)
-  grows s k = grow (iter succs k s) (sweep succs (iter succs k s)) (sym (length-sweep (iter succs k s))) (sweep-old (iter succs k s))
-
-  -- the rounds grow until a sweep does not change one
-  chain : (s : List Bool) (k : ℕ) → (sweep succs (iter succs k s) ≡ iter succs k s) ⊎ (k ≤ countTrue (iter succs k s))
-  unfolding iter
-  chain s zero = inr (omega arith)
-  chain s (suc k) = ⊎-elim (λ e. inl (ap (sweep succs) e)) (λ l. ⊎-elim (λ a. inr (omega arith)) (λ e. inl (ap (sweep succs) e)) (grows s k)) (chain s k)
-
   -- the round numbered as there are nodes is stable
   pub stable : (s : List Bool) → sweep succs (iter succs (length s) s) ≡ iter succs (length s) s
-  stable s = ⊎-elim (λ e. e) (λ l. ⊎-elim (λ a. absurd (omega (arith, few))) (λ e. e) (grows s (length s))) (chain s (length s))
-    where
-      few : countTrue (sweep succs (iter succs (length s) s)) ≤ length s
-      few = omega (arith, count-le (sweep succs (iter succs (length s) s)), length-sweep (iter succs (length s) s), length-iter (length s) s)
+  stable = settles (sweep succs) length-sweep sweep-old
 
   -- later rounds leave what was there
   iter-old : (s : List Bool) (k j : ℕ) (v : ℕ) → At (iter succs k s) v → At (iter succs (j + k) s) v
-  unfolding iter
+  unfolding rounds
   iter-old s k zero v h = rw zero-add h
   iter-old s k (suc j) v h = rw suc-add (sweep-old (iter succs (j + k) s) v (iter-old s k j v h))
 
@@ -217,7 +228,7 @@ module _ (succs : ℕ → List ℕ) where
   -- Walks that stay among the nodes.
   module _ (s : List Bool) (inside : (k u v : ℕ) → Walk succs s k u → Mem v (succs u) → v < length s) where
     walk-at : (k v : ℕ) → Walk succs s k v → At (iter succs k s) v
-    unfolding iter
+    unfolding rounds
     walk-at k v (start h) = h
     walk-at k v (step {k = j} {u = u} w m) = sweep-new (iter succs j s) u v (walk-at j u w) m (rw length-iter (inside j u v w m))
 
@@ -229,7 +240,7 @@ module _ (succs : ℕ → List ℕ) where
       where
         go : Dec (k ≤ length s) → At (iter succs (length s) s) v
         go (yes h) = walk-in k (length s) v w h
-        go (no h) = rw (stays s (length s) k (stable s) (omega arith)) (walk-at k v w)
+        go (no h) = rw (stays (sweep succs) s (length s) k (stable s) (omega arith)) (walk-at k v w)
 
   -- where a walk ends is one of the nodes
   pub walk-below : (s : List Bool) → Inside succs (length s) → (k v : ℕ) → Walk succs s k v → v < length s

@@ -10,6 +10,7 @@ use lib.Dec.{eqb, leb, ltb}
 use lib.ListN.{length, getD, List·getD-eq-default}
 use Rattle.laws.specs.Lists.{every, member, none}
 use Rattle.laws.proofs.Lists.{every-at}
+use Rattle.table.specs.Format.{pastSorts, pastOpcodes}
 use Rattle.table.specs.declared.Row.{Row}
 use Rattle.rows.specs.declared.Above.{Above}
 use Rattle.rows.specs.Rows.{mayFollow, limits, owned, uses, useOf, usedWith, unused, Use, countBelow, countOf, rowFault, misplaced, tooMany}
@@ -77,7 +78,7 @@ no-limit k h = List·getD-eq-default limits 0 {n = k} h
 
 -- how many values A has, as the code has them
 abbrev pub values : List ℕ
-values = 0 ∷ 2 ∷ 0 ∷ 2 ∷ 2 ∷ 4 ∷ 4 ∷ 20 ∷ []
+values = 0 ∷ 2 ∷ 0 ∷ 2 ∷ 2 ∷ pastSorts ∷ pastSorts ∷ pastOpcodes ∷ []
 
 values-agree : every (λ (k : ℕ). eqb (useOf k .values) (getD values k 0)) 8 ≡ true
 unfolding every uses
@@ -91,13 +92,13 @@ unfolding uses
 no-use k h = List·getD-eq-default uses unused {n = k} h
 
 -- which values of A use B, C and D, as the code has them
-pub operand : (a : ℕ) → a < 256 → usedWith 20 a (useOf 7 .withB) ≡ cond (ltb a 2) false (cond (leb a 5) true (cond (ltb a 8) false (not (eqb a 16))))
+pub operand : (a : ℕ) → a < 256 → usedWith pastOpcodes a (useOf 7 .withB) ≡ cond (ltb a 2) false (cond (leb a 5) true (cond (ltb a 8) false (not (eqb a 16))))
 unfolding every uses usedWith member none
-operand a h = agree (λ (a : ℕ). usedWith 20 a (useOf 7 .withB)) (λ (a : ℕ). cond (ltb a 2) false (cond (leb a 5) true (cond (ltb a 8) false (not (eqb a 16))))) 256 a refl h
+operand a h = agree (λ (a : ℕ). usedWith pastOpcodes a (useOf 7 .withB)) (λ (a : ℕ). cond (ltb a 2) false (cond (leb a 5) true (cond (ltb a 8) false (not (eqb a 16))))) 256 a refl h
 
-pub typed : (a : ℕ) → a < 256 → usedWith 4 a (useOf 5 .withB) ≡ cond (eqb a 1) true (leb 3 a)
+pub typed : (a : ℕ) → a < 256 → usedWith pastSorts a (useOf 5 .withB) ≡ cond (eqb a 1) true (leb 3 a)
 unfolding every uses usedWith member none
-typed a h = agree (λ (a : ℕ). usedWith 4 a (useOf 5 .withB)) (λ (a : ℕ). cond (eqb a 1) true (leb 3 a)) 256 a refl h
+typed a h = agree (λ (a : ℕ). usedWith pastSorts a (useOf 5 .withB)) (λ (a : ℕ). cond (eqb a 1) true (leb 3 a)) 256 a refl h
 
 pub field-type : (a : ℕ) → a < 256 → usedWith 2 a (useOf 3 .withB) ≡ not (eqb a 0)
 unfolding every uses usedWith member none
@@ -107,13 +108,13 @@ pub field-mark : (a : ℕ) → a < 256 → usedWith 2 a (useOf 3 .withC) ≡ tru
 unfolding every uses usedWith member none
 field-mark a h = agree (λ (a : ℕ). usedWith 2 a (useOf 3 .withC)) (λ (a : ℕ). true) 256 a refl h
 
-pub local-mark : (a : ℕ) → a < 256 → usedWith 4 a (useOf 5 .withC) ≡ true
+pub local-mark : (a : ℕ) → a < 256 → usedWith pastSorts a (useOf 5 .withC) ≡ true
 unfolding every uses usedWith member none
-local-mark a h = agree (λ (a : ℕ). usedWith 4 a (useOf 5 .withC)) (λ (a : ℕ). true) 256 a refl h
+local-mark a h = agree (λ (a : ℕ). usedWith pastSorts a (useOf 5 .withC)) (λ (a : ℕ). true) 256 a refl h
 
-pub constant : (a : ℕ) → a < 256 → usedWith 20 a (useOf 7 .withD) ≡ cond (eqb a 1) true (leb 20 a)
+pub constant : (a : ℕ) → a < 256 → usedWith pastOpcodes a (useOf 7 .withD) ≡ cond (eqb a 1) true (leb pastOpcodes a)
 unfolding every uses usedWith member none
-constant a h = agree (λ (a : ℕ). usedWith 20 a (useOf 7 .withD)) (λ (a : ℕ). cond (eqb a 1) true (leb 20 a)) 256 a refl h
+constant a h = agree (λ (a : ℕ). usedWith pastOpcodes a (useOf 7 .withD)) (λ (a : ℕ). cond (eqb a 1) true (leb pastOpcodes a)) 256 a refl h
 
 -- what no value of A uses is not used
 pub never : (n a : ℕ) (l : List ℕ) → l ≡ [] → usedWith n a l ≡ false

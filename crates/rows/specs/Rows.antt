@@ -8,16 +8,18 @@ use Rattle.laws.specs.Lists.{member, none}
 use Rattle.table.specs.declared.Row.{Row}
 use Rattle.table.specs.declared.Verdict.{Verdict}
 use Rattle.table.specs.declared.Verdict.the-variants.{Accepted, Refused}
-use Rattle.table.specs.Format.{rowBytes, moduleKind, typeKind, fieldKind, procedureKind, localKind, resultKind, instructionKind, numberSort, opOp, maxRows, maxModules, maxTypes, maxFields, maxProcedures, maxLocals, maxResults, maxInstructions}
+use Rattle.table.specs.Format.{rowBytes, moduleKind, typeKind, fieldKind, procedureKind, localKind, resultKind, instructionKind, numberSort, opOp, maxRows, maxModules, maxTypes, maxFields, maxProcedures, maxLocals, maxResults, maxInstructions, pastSorts, typedSorts, pastOpcodes, pastOps}
 use Rattle.table.specs.Rows.{rowCount, rowAt}
 use Rattle.table.specs.Verdicts.{passOver, andThen}
+use Rattle.table.specs.Flags.{isTrusted, isGuarded, isParameter}
+use Rattle.table.specs.Refusals.{badLength, badPlace, overLimit, badByte}
 use Rattle.rows.specs.declared.Above.{Above}
 
 -- 1: no bytes, a length that is not a multiple of 16, or more than 2,048 rows
 unfoldable pub lengthOf : List ℕ → Verdict
 lengthOf t =
     cond (eqb (length t) 0 || not (eqb (length t % rowBytes) 0) || ltb (rowBytes * maxRows) (length t))
-    (Refused 1 0)
+    (Refused badLength 0)
     (Accepted (rowCount t))
 
 -- The table of kinds. Each list below has an entry for each kind, from 0, which is none, to 7.
@@ -73,12 +75,12 @@ uses =
     ∷ record { values = 2; withB = 1 ∷ []; withC = 0 ∷ 1 ∷ []; withD = [] }
     -- procedure: 1 public, 0 private
     ∷ record { values = 2; withB = []; withC = []; withD = [] }
-    -- local: sort; B the type of sorts 1 and 3; C 1 parameter, else 0
-    ∷ record { values = 4; withB = 1 ∷ 3 ∷ []; withC = 0 ∷ 1 ∷ 2 ∷ 3 ∷ []; withD = [] }
-    -- result: sort; B the type of sorts 1 and 3
-    ∷ record { values = 4; withB = 1 ∷ 3 ∷ []; withC = []; withD = [] }
+    -- local: sort; B the type of sorts that have one; C 1 parameter, else 0
+    ∷ record { values = pastSorts; withB = typedSorts; withC = 0 ∷ 1 ∷ 2 ∷ 3 ∷ []; withD = [] }
+    -- result: sort; B the type of sorts that have one
+    ∷ record { values = pastSorts; withB = typedSorts; withC = []; withD = [] }
     -- instruction: opcode; B the operand; D the constant of opcode 1
-    ∷ record { values = 20; withB = 2 ∷ 3 ∷ 4 ∷ 5 ∷ 8 ∷ 9 ∷ 10 ∷ 11 ∷ 12 ∷ 13 ∷ 14 ∷ 15 ∷ 17 ∷ 18 ∷ 19 ∷ []; withC = []; withD = 1 ∷ [] }
+    ∷ record { values = pastOpcodes; withB = 2 ∷ 3 ∷ 4 ∷ 5 ∷ 8 ∷ 9 ∷ 10 ∷ 11 ∷ 12 ∷ 13 ∷ 14 ∷ 15 ∷ 17 ∷ 18 ∷ 19 ∷ []; withC = []; withD = 1 ∷ [] }
     ∷ []
 
 abbrev pub useOf : ℕ → Use
@@ -108,8 +110,8 @@ belowRow s row = record {
   locals = countBelow localKind (row .kind) (s .locals);
   results = countBelow resultKind (row .kind) (s .results);
   instructions = countBelow instructionKind (row .kind) (s .instructions);
-  trusted = cond (eqb (row .kind) moduleKind) (eqb (row .a) 1) (s .trusted);
-  other = cond (eqb (row .kind) procedureKind) false ((eqb (row .kind) localKind && not (eqb (row .c) 1)) || s .other);
+  trusted = cond (eqb (row .kind) moduleKind) (isTrusted row) (s .trusted);
+  other = cond (eqb (row .kind) procedureKind) false ((eqb (row .kind) localKind && not (isParameter row)) || s .other);
 }
 
 unfoldable pub aboveAt : List ℕ → ℕ → Above
@@ -156,10 +158,10 @@ abbrev pub badC : Row → Bool
 badC row = usesC row && ltb 1 (row .c)
 
 abbrev pub lateParameter : Above → Row → Bool
-lateParameter s row = eqb (row .kind) localKind && eqb (row .c) 1 && s .other
+lateParameter s row = eqb (row .kind) localKind && isParameter row && s .other
 
 abbrev pub badOp : Row → Bool
-badOp row = eqb (row .kind) instructionKind && eqb (row .a) opOp && ltb 3 (row .b)
+badOp row = eqb (row .kind) instructionKind && eqb (row .a) opOp && leb pastOps (row .b)
 
 -- 4: a value not allowed: A past its values, C over 1, a parameter after another local, Op over 3
 unfoldable pub badValue : Above → Row → Bool
@@ -171,16 +173,16 @@ badValue s row =
 
 -- 4: a guard misplaced: only number fields of trusted modules may be guarded
 unfoldable pub badGuard : Above → Row → Bool
-badGuard s row = eqb (row .kind) fieldKind && eqb (row .c) 1 && not (eqb (row .a) numberSort && s .trusted)
+badGuard s row = eqb (row .kind) fieldKind && isGuarded row && not (eqb (row .a) numberSort && s .trusted)
 
 -- the lowest number that a row earns below what stands above it, 0 for none
 unfoldable pub rowFault : Above → Row → ℕ
 rowFault s row =
-    cond (misplaced s row) 2
-    (cond (tooMany s row) 3
-    (cond (unusedByte row) 4
-    (cond (badValue s row) 4
-    (cond (badGuard s row) 4 0))))
+    cond (misplaced s row) badPlace
+    (cond (tooMany s row) overLimit
+    (cond (unusedByte row) badByte
+    (cond (badValue s row) badByte
+    (cond (badGuard s row) badByte 0))))
 
 unfoldable pub faultAt : List ℕ → ℕ → ℕ
 faultAt t i = rowFault (aboveAt t i) (rowAt t i)

@@ -3,10 +3,12 @@ ghost use mathlib.Core.Path.{_≡_};
 ghost use mathlib.Core.Bool.{not, _&&_};
 ghost use lib.Dec.{eqb, leb, ltb};
 ghost use Prim.Native.Nat.{_<_};
+ghost use Rattle.table.specs.Format.{localKind, instructionKind, pastSorts, pastOpcodes};
 ghost use Rattle.rows.specs.Rows.{lengthOf, rowsOf, formOf, countOf, belowRow, misplaced, tooMany, usesA, usesB, usesC, usesD, dirty, badC, lateParameter, badOp, unusedByte, badValue, badGuard, rowFault, useOf, usedWith};
 use table::Row;
 use table::Verdict;
 use table::format;
+use table::refusals;
 
 // What stands above a row: the kind of the row right above, 0 for none; the number of rows of each kind in the same owner; whether the
 // module is trusted; whether some local of the procedure is no parameter.
@@ -30,7 +32,16 @@ const FOLLOWS_TO: [u8; 8] = [0, 7, 3, 3, 7, 5, 6, 7];
 
 const LIMITS: [u16; 8] = [0, 16, 64, 8, 128, 16, 4, 256];
 
-const VALUES: [u8; 8] = [0, 2, 0, 2, 2, 4, 4, 20];
+const VALUES: [u8; 8] = [
+    0,
+    2,
+    0,
+    2,
+    2,
+    format::PAST_SORTS,
+    format::PAST_SORTS,
+    format::PAST_OPCODES,
+];
 
 impl Above {
     pub const NOTHING: Above = Above {
@@ -185,19 +196,19 @@ impl Above {
         ensures { λ r. ⌜ r ≡ rowFault self row ⌝ }
     {
         if self.misplaces(row) {
-            return 2;
+            return refusals::BAD_PLACE;
         }
         if self.overfills(row) {
-            return 3;
+            return refusals::OVER_LIMIT;
         }
         if unused_byte(row) {
-            return 4;
+            return refusals::BAD_BYTE;
         }
         if self.bad_value(row) {
-            return 4;
+            return refusals::BAD_BYTE;
         }
         if self.bad_guard(row) {
-            return 4;
+            return refusals::BAD_BYTE;
         }
         0
     }
@@ -215,7 +226,7 @@ fn values_of(kind: u8) -> u8
 
 // Whether an opcode has an operand; one that is not allowed counts as having one.
 fn has_operand(opcode: u8) -> bool
-    ensures { λ r. ⌜ r ≡ usedWith 20 opcode (useOf 7 .withB) ⌝ }
+    ensures { λ r. ⌜ r ≡ usedWith pastOpcodes opcode (useOf instructionKind .withB) ⌝ }
 {
     if opcode < format::MV_LOC {
         return false;
@@ -231,7 +242,7 @@ fn has_operand(opcode: u8) -> bool
 
 // Whether a value of this sort has a type; a sort that is not allowed counts as having one.
 fn has_type(sort: u8) -> bool
-    ensures { λ r. ⌜ r ≡ usedWith 4 sort (useOf 5 .withB) ⌝ }
+    ensures { λ r. ⌜ r ≡ usedWith pastSorts sort (useOf localKind .withB) ⌝ }
 {
     if sort == format::RECORD {
         return true;
@@ -275,7 +286,7 @@ fn uses_d(row: Row) -> bool
     if row.a == format::LOAD_CONST {
         return true;
     }
-    20 <= row.a
+    format::PAST_OPCODES <= row.a
 }
 
 // A part of a row that has no use and is not zero.
@@ -331,7 +342,7 @@ fn bad_op(row: Row) -> bool
 {
     if row.kind == format::INSTRUCTION {
         if row.a == format::OP {
-            return 3 < row.b;
+            return format::PAST_OPS <= row.b;
         }
     }
     false
@@ -343,13 +354,13 @@ pub fn length_pass(table: &[u8]) -> Verdict
 {
     let n = table.len();
     if n == 0 {
-        return Verdict::Refused(1, 0);
+        return Verdict::Refused(refusals::BAD_LENGTH, 0);
     }
     if n % format::ROW_BYTES != 0 {
-        return Verdict::Refused(1, 0); // the last row is not whole
+        return Verdict::Refused(refusals::BAD_LENGTH, 0); // the last row is not whole
     }
     if format::ROW_BYTES * format::MAX_ROWS < n {
-        return Verdict::Refused(1, 0);
+        return Verdict::Refused(refusals::BAD_LENGTH, 0);
     }
     Verdict::Accepted(n / format::ROW_BYTES)
 }

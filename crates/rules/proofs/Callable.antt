@@ -1,13 +1,13 @@
 -- Each call of an accepted list is good.
-use Prim.Native.Nat.{ℕ, zero, suc, _+_, _-_, _/_, _%_, _^_, _<_, _≤_}
-use mathlib.Core.Path.{_≡_, refl, sym, ap, _∙_}
+use Prim.Native.Nat.{ℕ, zero, suc, _+_, _-_, _%_, _^_, _<_, _≤_}
+use mathlib.Core.Path.{_≡_, refl}
 use mathlib.Core.Bool.{Bool, true, false, cond, not, _&&_, _||_, true≢false, false≢true}
 use mathlib.Core.List.{List, [], _∷_}
 use native.Mathlib.Decide.{decLt}
 use native.Mathlib.Omega.{arith}
-use borrow.Author.Tests.{ltb-false, leb-false, eqb-true, eqb-false, eq-eqb, not-false}
-use lib.Dec.{eqb, ltb, leb}
-use lib.ListN.{length, getD}
+use borrow.Author.Tests.{ltb-false, leb-false, eqb-true, eqb-false, not-false}
+use lib.Dec.{eqb, ltb}
+use lib.ListN.{length}
 use Rattle.laws.proofs.First.{all-fine}
 use Rattle.table.specs.declared.Row.{Row}
 use Rattle.table.specs.declared.Verdict.{Verdict}
@@ -21,7 +21,7 @@ use Rattle.program.specs.Program.{procedureIn, parameterKinds, resultKinds}
 use Rattle.program.proofs.Passes.{refused-accepted, unfaulted}
 use Rattle.judged.specs.Judged.{Bytes}
 use Rattle.judged.proofs.Instructions.{constant-low}
-use Rattle.rules.specs.Calls.{callRow, argumentRow, maxListBytes, maxBudget, arguments, badKind, unusedByte, argumentFirst, allNumbers, noSuchProcedure, notNumbers, wrongCount, badBudget, badCall, listFault, listOf, Call, call, callsFrom, callsOf}
+use Rattle.rules.specs.Calls.{callRow, argumentRow, maxListBytes, maxBudget, arguments, badKind, unusedByte, argumentFirst, allNumbers, noSuchProcedure, notNumbers, wrongCount, badBudget, badCall, listFault, listOf, call, callsFrom, callsOf}
 use Rattle.rules.specs.Claim.{All, none-left, also}
 use Rattle.rules.specs.Callable.{Callable, GoodCall}
 

@@ -1,47 +1,45 @@
 -- No instruction of an accepted table is stuck, and each keeps what holds: the cases by opcode.
-use Prim.Native.Nat.{ℕ, zero, suc, _+_, _-_, _/_, _%_, _<_, _≤_}
+use Prim.Native.Nat.{ℕ, _+_, _-_, _/_, _%_, _<_, _≤_}
 use mathlib.Core.Path.{_≡_, refl, ap, sym, _∙_}
 use mathlib.Core.List.{List, [], _∷_, _++_, map}
-use mathlib.Core.Bool.{Bool, true, false, cond, not, _&&_, or-true, true≢false}
+use mathlib.Core.Bool.{Bool, true, false, cond, _&&_, or-true, true≢false}
 use mathlib.Core.Option.{Option, none, some}
 use mathlib.Core.Logic.{_⊎_, inl, inr, ⊎-elim}
 use native.Mathlib.Omega.{arith}
-use lib.ListN.{length, getD, set, drop, replicate, length-append, length-map, getElem? as nth}
+use lib.ListN.{length, getD, set, drop, length-append, length-map, getElem? as nth}
 use lib.Dec.{eqb, ltb}
 use borrow.Author.Tests.{eqb-true, ltb-true, not-true}
-use Rattle.table.specs.declared.index.Index.{Index}
 use Rattle.table.specs.Format
 use Rattle.table.specs.Index.{indexOf}
-use Rattle.table.specs.Rows.{rowCount, rowAt}
-use Rattle.program.specs.Program.{number, recordOf, numberRef, recordRef, referenceTo, isRecord, isReference, procedureIn, typeIn, fieldKinds, resultKinds, codeOf, localCount, localKind}
+use Rattle.program.specs.Program.{number, referenceTo, isRecord, procedureIn, typeIn, fieldKinds, resultKinds, codeOf, localCount, localKind, instructionIn}
 use Rattle.reach.specs.Reach.{Mem}
 use Rattle.kinds.specs.Effects.{Effect, effects, noEffect}
 use Rattle.operands.specs.Operands.{namedType, endsBlock, lastOfBlock}
-use Rattle.operands.specs.Flow.{onto, effectIn, Flow}
+use Rattle.operands.specs.Flow.{onto, effectIn}
 use Rattle.flow.specs.Steps.{nexts}
 use Rattle.flow.specs.Walks.{Slot, empty, full, markOf, topMark, pushedOn as marksOn}
 use Rattle.locals.specs.Locals.{needsFull}
-use Rattle.steps.specs.Steps.{nothingGiven, stepAt}
+use Rattle.leaks.specs.Leaks.{guardedMarks}
 use Rattle.walks.proofs.Regular.{step-takes}
-use Rattle.walks.specs.Checked.{Checked}
-use Rattle.judged.specs.Judged.{localKinds, Instruction, Procedure, Declared, Judged}
+use Rattle.walks.specs.Checked.{stepIn}
+use Rattle.judged.specs.Judged.{localKinds}
 use Rattle.arithmetic.specs.declared.Calculated.{Calculated}
 use Rattle.arithmetic.specs.declared.Calculated.the-variants.{Value as Gives, OutOfRange, Unknown}
 use Rattle.arithmetic.specs.Arithmetic.{calculation}
 use Rattle.arithmetic.proofs.Range.{four, word}
-use Rattle.rules.specs.Machine.{Value, num, obj, toLocal, toField, toRecord, Cell, gone, here, Entry, entry, Frame, frame, State, state, Outcome, next, finished, stopped, stuck, content, localOf, findKey, dropKey, putLocal, putField, liveCount, target, stale, writeFrames, writeRecords}
+use Rattle.rules.specs.Machine.{Value, num, obj, toField, toRecord, Cell, gone, here, Entry, Frame, frame, State, state, Outcome, next, stopped, stuck, findKey, putField, liveCount, target, writeFrames, writeRecords}
 use Rattle.rules.specs.Calls.{allNumbers}
-use Rattle.rules.specs.Step.{pushedOn, one, two, withNumber, withRecord, numberAt, recordAt, fieldsAt, withLocal, fillable, fieldReference, underKey, calculated, actions, returned, noneHeld, nothingUnder}
-use Rattle.rules.specs.Ownership.{same as sameId, inValue, inValues, inSlot, inLocals, inFrames, inRecords, inStore, livesAt}
-use Rattle.rules.proofs.Indexed.{moduleIn, declarerIn, guardedIn}
-use Rattle.rules.specs.Claim.{All, none-left, also, Owned, IsNumber}
+use Rattle.rules.specs.Step.{pushedOn, numberAt, recordAt, fieldReference, underKey, calculated, actions, returned, noneHeld}
+use Rattle.rules.specs.Ownership.{inValue, inValues, inLocals, inFrames, inRecords, inStore, livesAt}
+use Rattle.rules.proofs.Indexed.{moduleIn}
+use Rattle.rules.specs.Claim.{All, none-left, also, IsNumber}
 use Rattle.rules.proofs.Counts.{held-rev, held-set, held-start, heap-set, heap-snoc, alive-set, alive-snoc, alive-put, vals-set, same-one, alive-gone, find-drop, put-set}
-use Rattle.rules.proofs.Changes.{clash, Change, same, wrote, packed, unpacked, published, withdrew}
+use Rattle.rules.proofs.Changes.{clash, same, wrote, packed, unpacked, published, withdrew}
 use Rattle.rules.proofs.Sounds.{nth-inside}
 use Rattle.rules.proofs.Sorts.{reference-loose}
 use Rattle.rules.proofs.Typing.{Word, Fit, fnum, fobj, floc, ffld, frec, Has, hnil, hcons, has-push, has-more, Slots, slots-more, Fields, CellOk, cells-more, EntryOk, entries-more, snoc-more, snoc-last}
 use Rattle.rules.proofs.Places.{as-fields, of-fields, loose, as-number, as-record, slot-full, slot-clear, slot-put, slot-free, emptied}
-use Rattle.rules.proofs.Frames.{FrameOk, Suspended, bottom, over, suspended-more, Stack, runs, typeOf, Inv, write, held-local, cell-at, all-set, all-snoc, types-set, types-snoc, types-length, find-key, drop-key, field-put, NumberAt, lost, inALocal, inAField, number-at, RecordAt, lostRecord, leads, record-at, FieldAt, numberField, recordField, field-at}
+use Rattle.rules.proofs.Frames.{Suspended, bottom, over, suspended-more, runs, typeOf, write, held-local, cell-at, all-set, all-snoc, types-set, types-snoc, types-length, find-key, drop-key, field-put, NumberAt, lost, inALocal, inAField, number-at, RecordAt, lostRecord, leads, record-at, FieldAt, numberField, recordField, field-at}
 use Rattle.rules.proofs.Entering.{entered, has-length}
 use Rattle.rules.proofs.Instructions.{effect-at, locals-kept, locals-moved, locals-stored, pushes-moved, pushes-copied, pushes-field, pushes-length}
 use Rattle.rules.proofs.Running.{OutcomeOk, Running, one-taken, two-taken, none-taken, push-none, push-one, target-same, given, pushedMarks, localsThen, Did, stands, waits, goes-on, then, keeps}
@@ -55,10 +53,10 @@ module _ {t : List ℕ} {T W : List ℕ} {id p i : ℕ} {ops vs under : List Val
     (R : Running t T W id p i ops vs under ls fs h st n) where
   -- the instruction's opcode, operand and constant
   abbrev op : ℕ
-  op = rowAt (codeOf t (procedureIn (indexOf t) p)) i .a
+  op = instructionIn t (indexOf t) p i .a
 
   abbrev b : ℕ
-  b = rowAt (codeOf t (procedureIn (indexOf t) p)) i .b
+  b = instructionIn t (indexOf t) p i .b
 
   -- its effect
   abbrev effect : ℕ → Effect
@@ -77,7 +75,7 @@ module _ {t : List ℕ} {T W : List ℕ} {id p i : ℕ} {ops vs under : List Val
   fit-at a e = sym (ap (λ (x : Effect). x .fit) (effect-is a e)) ∙ R .instr .flow .fit
 
   marks-length : length (pushedMarks R) ≡ length (given R)
-  marks-length = pushes-length t (indexOf t) (procedureIn (indexOf t) p) i (R .L) (R .instr .flow .top)
+  marks-length = pushes-length t (indexOf t) (procedureIn (indexOf t) p) i (R .L) (R .O) (R .instr .flow .top)
 
   -- a walk goes on with the next instruction, and its locals stay
   fall : (a : ℕ) → op ≡ a → (a ≡ Format.opRet → ⊥) → (a ≡ Format.opBranch → ⊥) → Mem (i + 1) (nexts (codeOf t (procedureIn (indexOf t) p)) i)
@@ -99,7 +97,7 @@ module _ {t : List ℕ} {T W : List ℕ} {id p i : ℕ} {ops vs under : List Val
   abbrev pub Case : ℕ → Type 0
   Case a = op ≡ a
       → OutcomeOk t (Did R)
-      (getD (actions b (rowAt (codeOf t (procedureIn (indexOf t) p)) i .d) (localKind t (procedureIn (indexOf t) p) b) (localCount (procedureIn (indexOf t) b) - length vs) vs id p i under ls fs h st n) a stuck)
+      (getD (actions b (instructionIn t (indexOf t) p i .d) (localKind t (procedureIn (indexOf t) p) b) (localCount (procedureIn (indexOf t) b) - length vs) vs id p i under ls fs h st n) a stuck)
 
   pub ok-pop : Case 0
   unfolding actions effects
@@ -144,7 +142,7 @@ module _ {t : List ℕ} {T W : List ℕ} {id p i : ℕ} {ops vs under : List Val
   ok-mv e =
       let f = full-local (inl e) (rw e refl) in
       let v = f .0 in
-      let marks : pushedMarks R ≡ f .1 ∷ [] = pushes-moved t (indexOf t) (procedureIn (indexOf t) p) i (R .L) e ∙ ap (λ (s : Slot). markOf s ∷ []) (f .3) in
+      let marks : pushedMarks R ≡ f .1 ∷ [] = pushes-moved t (indexOf t) (procedureIn (indexOf t) p) i (R .L) (R .O) e ∙ ap (λ (s : Slot). markOf s ∷ []) (f .3) in
       rw (f .2)
       (keeps R (λ q. omega (arith, e, q)) (i + 1) (fall 2 e (λ z. omega arith) (λ z. omega arith)) {ws = v ∷ []} {ls′ = set ls b none} (rw (given-at 2 e, marks) (hcons (f .4) hnil))
       (rw (locals-moved t (indexOf t) (procedureIn (indexOf t) p) i (R .L) (R .O) e) (slot-clear (R .slots) b))
@@ -154,7 +152,7 @@ module _ {t : List ℕ} {T W : List ℕ} {id p i : ℕ} {ops vs under : List Val
   unfolding actions effects needsFull
   ok-cp e =
       let f = full-local (inr (inl e)) (rw e refl) in
-      let marks : pushedMarks R ≡ f .1 ∷ [] = pushes-copied t (indexOf t) (procedureIn (indexOf t) p) i (R .L) e ∙ ap (λ (s : Slot). markOf s ∷ []) (f .3) in
+      let marks : pushedMarks R ≡ f .1 ∷ [] = pushes-copied t (indexOf t) (procedureIn (indexOf t) p) i (R .L) (R .O) e ∙ ap (λ (s : Slot). markOf s ∷ []) (f .3) in
       rw (f .2)
       (keeps R (λ q. omega (arith, e, q)) (i + 1) (fall 3 e (λ z. omega arith) (λ z. omega arith)) {ws = f .0 ∷ []} {ls′ = ls} (rw (given-at 3 e, marks) (hcons (f .4) hnil)) (kept 3 e refl refl)
       (λ r. omega (arith, R .owned r, ap (inValues r) (none-taken (has-at 3 e)), loose (f .4) (not-true _ (fit-at 3 e)) r)))
@@ -247,7 +245,7 @@ module _ {t : List ℕ} {T W : List ℕ} {id p i : ℕ} {ops vs under : List Val
       → OutcomeOk t (Did R) (fieldReference a (b / 8) (b % 8) w λ (w : Value). next (state (frame id p (i + 1) (w ∷ under) ls ∷ fs) h st n))
   ok-field-go e v q z a k w d f g (numberField y) =
       keeps R (λ q. omega (arith, e, q)) (i + 1) (fall 8 e (λ z. omega arith) (λ z. omega arith)) {ws = toField a (b / 8) (b % 8) ∷ []} {ls′ = ls}
-      (rw (given-at 8 e ∙ g, pushes-field t (indexOf t) (procedureIn (indexOf t) p) i (R .L) e)
+      (rw (given-at 8 e ∙ g, pushes-field t (indexOf t) (procedureIn (indexOf t) p) i (R .L) (R .O) e)
       (hcons (ffld d (f ∙ ap {B = Option ℕ} some y) (λ u. (u, owns 8 e (omega arith) (omega arith))) (ap referenceTo y)) hnil))
       (kept 8 e refl refl) (λ r. omega (arith, R .owned r, ap (inValues r) q, z r))
   ok-field-go e v q z a k w d f g (recordField {id = c} {y} l y′) =
@@ -379,11 +377,11 @@ module _ {t : List ℕ} {T W : List ℕ} {id p i : ℕ} {ops vs under : List Val
       (λ j z. keeps R (λ q. omega (arith, e, q)) (i + 1) (fall 14 e (λ z. omega arith) (λ z. omega arith)) (a-value 14 e refl (λ m. fnum (omega arith) refl)) (kept 14 e refl refl) (λ r. omega (arith, R .owned r, ap (inValues r) (a .1)))))
 
   -- what a Call or a Ret takes is unmarked
-  clean : (a : ℕ) → op ≡ a → ((j : ℕ) → j < stepAt t (indexOf t) nothingGiven (procedureIn (indexOf t) p) i .takes → getD (R .O) j false ≡ false)
+  clean : (a : ℕ) → op ≡ a → ((j : ℕ) → j < stepIn t p i .takes → getD (R .O) j false ≡ false)
       → (m : ℕ) (cs : List Bool) → length cs ≡ length (effect a .takes) → Has t (indexOf t) T W m vs (effect a .takes) cs
   clean a e f m cs l =
       let g = ap (λ (x : Effect). x .takes) (effect-is a e) in
-      rw g at (R .out m cs (l ∙ ap length (sym g)) (λ j q. f j (rw (step-takes t (indexOf t) nothingGiven (procedureIn (indexOf t) p) (R .instr .flow .top) i) q)))
+      rw g at (R .out m cs (l ∙ ap length (sym g)) (λ j q. f j (rw (step-takes t (indexOf t) (guardedMarks t) (procedureIn (indexOf t) p) (R .instr .flow .top) i) q)))
 
   pub ok-call : Case 15
   unfolding actions effects
@@ -428,7 +426,7 @@ module _ {t : List ℕ} {T W : List ℕ} {id p i : ℕ} {ops vs under : List Val
   number-pushed e x y z q w = keeps R (λ q. omega (arith, e, q)) (i + 1) (fall 19 e (λ z. omega arith) (λ z. omega arith)) (a-value 19 e refl (λ m. fnum w refl)) (kept 19 e refl refl) (λ r. omega (arith, R .owned r, ap (inValues r) q))
 
   calculated-ok : op ≡ 19 → (x y : ℕ) → vs ≡ num x ∷ num y ∷ [] → Word x → (c : Calculated) → calculation b x y ≡ c
-      → OutcomeOk t (Did R) (calculated b (rowAt (codeOf t (procedureIn (indexOf t) p)) i .d) (localKind t (procedureIn (indexOf t) p) b) (localCount (procedureIn (indexOf t) b) - length vs) vs id p i under ls fs h st n c)
+      → OutcomeOk t (Did R) (calculated b (instructionIn t (indexOf t) p i .d) (localKind t (procedureIn (indexOf t) p) b) (localCount (procedureIn (indexOf t) b) - length vs) vs id p i under ls fs h st n c)
   calculated-ok e x y q w (Gives z) g = number-pushed e x y z q (word b x y w g)
   calculated-ok e x y q w OutOfRange g = tt
   calculated-ok e x y q w Unknown g = omega (arith, four b x y .0 g, R .instr .calculates e)

@@ -1,16 +1,16 @@
 -- Counts of who holds a record, which add up.
-use Prim.Native.Nat.{ℕ, zero, suc, _+_, _<_, _≤_}
-use mathlib.Core.Path.{_≡_, refl, ap, sym, _∙_}
-use mathlib.Core.List.{List, [], _∷_, _++_, map}
+use Prim.Native.Nat.{ℕ, zero, suc, _+_}
+use mathlib.Core.Path.{_≡_, refl, ap, sym}
+use mathlib.Core.List.{List, [], _∷_, _++_}
 use mathlib.Core.Bool.{Bool, true, false, cond, _&&_}
-use mathlib.Core.Option.{Option, none, some}
+use mathlib.Core.Option.{Option, some}
 use native.Mathlib.Omega.{arith}
 use native.Mathlib.Nat.{add-zero}
-use lib.ListN.{length, set, replicate, getElem? as nth}
+use lib.ListN.{length, set, getElem? as nth}
 use lib.Dec.{eqb}
-use Rattle.rules.specs.Machine.{Value, num, obj, toLocal, toField, toRecord, Cell, gone, here, Entry, entry, Frame, frame, lives, liveCount, findKey, dropKey, putField}
+use Rattle.rules.specs.Machine.{Value, Cell, gone, here, Entry, entry, findKey, dropKey, putField}
 use Rattle.rules.specs.Step.{pushedOn, startLocals}
-use Rattle.rules.specs.Ownership.{same, inValue, inValues, inSlot, inLocals, inFrames, inFields, inRecords, inStore, livesAt}
+use Rattle.rules.specs.Ownership.{same, inValue, inValues, inSlot, inLocals, inFields, inRecords, inStore, livesAt}
 
 pub held-rev : (i : ℕ) (vs ops : List Value) → inValues i (pushedOn vs ops) ≡ inValues i vs + inValues i ops
 held-rev i [] ops = omega arith

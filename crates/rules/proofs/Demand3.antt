@@ -1,45 +1,42 @@
 -- Demand 3, over every event of a list of calls.
-use Prim.Native.Nat.{ℕ, zero, suc, _+_, _-_, _<_, _≤_}
+use Prim.Native.Nat.{ℕ, _+_, _-_, _<_, _≤_}
 use mathlib.Core.Path.{_≡_, refl, ap, sym, _∙_}
-use mathlib.Core.List.{List, [], _∷_, _++_, map}
-use mathlib.Core.Bool.{Bool, true, false}
-use mathlib.Core.Option.{Option, none, some}
-use mathlib.Core.Logic.{_⊎_, inl, inr, ⊎-elim, _≢_}
+use mathlib.Core.List.{List, [], _∷_, map}
+use mathlib.Core.Option.{Option}
+use mathlib.Core.Logic.{_⊎_, inl, inr, ⊎-elim}
 use native.Mathlib.Omega.{arith}
-use lib.ListN.{length, set, drop, getElem? as nth}
+use lib.ListN.{length, drop}
 use Rattle.table.specs.declared.Row.{Row}
 use Rattle.table.specs.declared.Verdict.the-variants.{Accepted}
-use Rattle.table.specs.declared.index.Index.{Index}
 use Rattle.table.specs.Format.{maxResults, opPack, opUnpack, opMoveTo, opMoveFrom}
 use Rattle.table.specs.Index.{indexOf, ownerAt}
-use Rattle.table.specs.Rows.{rowCount, rowAt}
-use Rattle.program.specs.Program.{procedureIn, codeOf}
+use Rattle.table.specs.Rows.{rowAt}
+use Rattle.program.specs.Program.{procedureIn, instructionIn}
 use Rattle.judging.specs.Judging.{judgeOf}
 use Rattle.judged.specs.Judged.{Bytes, Judged}
 use Rattle.judged.proofs.Judged.{judged}
-use Rattle.reach.specs.Reach.{Mem}
-use Rattle.rules.specs.Machine.{Value, num, toField, Cell, gone, here, Entry, Frame, frame, State, state, Outcome, next, finished, stopped, stuck}
+use Rattle.rules.specs.Machine.{Value, toField, Cell, Entry, Frame, frame, State, state, Outcome, next, finished, stopped, stuck}
 use Rattle.rules.specs.Step.{instruction, step}
 use Rattle.rules.specs.Calls.{Call, listOf, callsOf}
-use Rattle.rules.specs.History.{Base, base, Event, moment, ended, bury, restored, afterwards, rowUp, history, nothing}
+use Rattle.rules.specs.History.{Base, base, Event, moment, ended, bury, restored, afterwards, nothing}
 use Rattle.rules.specs.Run.{historyOf}
-use Rattle.rules.specs.Words.{typeCount, moduleOf, declarer, guardedField, Holds, operand, Exists, NumberIn, IsEntry, InStore}
+use Rattle.rules.specs.Words.{moduleOf, operand, Exists, IsEntry}
 use Rattle.rules.specs.Callable.{GoodCall}
-use Rattle.rules.specs.Claim.{All, none-left, also, IsNumber, Owned, Sound, Ready, Kept, Proper, By, SafeState, SafeOutcome, goes as goes-on, returnsLast, stops as stops-there, Restored, SafeEnd, finishes, restores, Between, Later, Safe, safe, ends as ends-there}
+use Rattle.rules.specs.Claim.{All, none-left, also, IsNumber, Owned, Sound, Ready, Kept, Proper, By, SafeOutcome, goes as goes-on, returnsLast, stops as stops-there, Restored, finishes, restores, Between, Later, Safe, safe, ends as ends-there}
 use Rattle.rules.specs.Chain.{Chained, Claimed}
 use Rattle.rules.proofs.Changes.{clash, grows, Limited}
 use Rattle.rules.proofs.Indexed.{moduleIn, declarerIn}
 use Rattle.rules.proofs.Sounds.{changed-ok, written-ok, fields-ok, made-ok, fresh-ok, broken-ok, entered-ok, left-ok, packs-ok, unpacks-ok, keyed-ok, unkeyed-ok, key-once, nth-app, head-of}
 use Rattle.rules.proofs.Typing.{CellOk, EntryOk}
-use Rattle.rules.proofs.Frames.{FrameOk, Suspended, Stack, runs, typeOf, Inv}
+use Rattle.rules.proofs.Frames.{FrameOk, Stack, runs, typeOf, Inv}
 use Rattle.rules.proofs.Running.{Rest, OutcomeOk}
-use Rattle.rules.proofs.Steps.{StateOk, DidAt, step-ok, runs-on, takes-there}
+use Rattle.rules.proofs.Steps.{DidAt, runs-on, takes-there}
 use Rattle.rules.proofs.Guests.{stack-kept}
 use Rattle.rules.proofs.Owning.{nested, plain, reached, shaped, entries-typed}
 use Rattle.rules.proofs.Worded.{types-are, procedures-are, type-is, procedure-is, declarer-is, module-is}
 use Rattle.rules.proofs.Placed.{place-is, end-is, row-is, kind-is, owner-is, guests-are}
 use Rattle.rules.proofs.Labels.{types-hold, links}
-use Rattle.rules.proofs.Outcomes.{OutQ, goes, ends}
+use Rattle.rules.proofs.Outcomes.{goes, ends}
 use Rattle.rules.proofs.Callable.{good-calls}
 use Rattle.rules.proofs.Invariant.{used, usedAt, Within, BaseOk, MomentOk, EndOk, EventOk, HandedAt, handed-at, outcome-ok, restored-ok, restored-length, buried-dead, chain-ok, nothing-ok}
 use Rattle.rules.proofs.Every.{chained}
@@ -74,7 +71,7 @@ module _ (t : List ℕ) (J : Judged t (indexOf t)) where
     abbrev here-row : ℕ
     here-row = procedureIn (indexOf t) p .code + i
 
-    found : rowAt (codeOf t (procedureIn (indexOf t) p)) i ≡ rowAt t here-row
+    found : instructionIn t (indexOf t) p i ≡ rowAt t here-row
     found = row-is t (J .accepted) p (f .there) few i (f .inside)
 
     stands-in : ownerAt t here-row ≡ moduleOf t p
@@ -99,9 +96,9 @@ module _ (t : List ℕ) (J : Judged t (indexOf t)) where
         }
 
     -- the instruction works on a type of its own module
-    by : (op y : ℕ) → 9 ≤ op → op ≤ 14 → (rowAt (codeOf t (procedureIn (indexOf t) p)) i .a ≡ op) × (rowAt (codeOf t (procedureIn (indexOf t) p)) i .b ≡ y) × (declarerIn (indexOf t) y ≡ moduleIn (indexOf t) p) → By t here-row op y
+    by : (op y : ℕ) → 9 ≤ op → op ≤ 14 → (instructionIn t (indexOf t) p i .a ≡ op) × (instructionIn t (indexOf t) p i .b ≡ y) × (declarerIn (indexOf t) y ≡ moduleIn (indexOf t) p) → By t here-row op y
     by op y lo hi z =
-        let there : rowAt (codeOf t (procedureIn (indexOf t) p)) i .b < indexOf t .types = J .instruction p i (f .there) (f .inside) .type-named (omega (arith, z .0)) (omega (arith, z .0)) in
+        let there : instructionIn t (indexOf t) p i .b < indexOf t .types = J .instruction p i (f .there) (f .inside) .type-named (omega (arith, z .0)) (omega (arith, z .0)) in
         let named : y < indexOf t .types = rw (z .1) at there in
         record {
           opcode = ap (λ (r : Row). r .a) (sym found) ∙ z .0;
@@ -114,7 +111,7 @@ module _ (t : List ℕ) (J : Judged t (indexOf t)) where
     proper : (n : ℕ) {fs : List Frame} {h h′ : List Cell} {st st′ : List Entry} → Kept t (frame id p i ops ls) → Sound t (frame id p i ops ls ∷ fs) h st → ((y a c : ℕ) → IsEntry st′ y a c → Exists h′ c y)
         → DidAt t (state (frame id p i ops ls ∷ fs) h st n) h′ st′ → Proper t here-row ops h st h′ st′
     proper n {h} {h′} {st} {st′} own s typed′ k =
-        let op : rowAt (codeOf t (procedureIn (indexOf t) p)) i .a ≡ rowAt t here-row .a = ap (λ (r : Row). r .a) found in
+        let op : instructionIn t (indexOf t) p i .a ≡ rowAt t here-row .a = ap (λ (r : Row). r .a) found in
         record {
           changed = λ id y j x x′ g a b. ((λ d. let z = changed-ok k id y j x x′ a b d in (x′, (sym op ∙ z .0, z .1), d)), λ w d. w .2 (d ∙ written-ok k id y j x′ (w .0) (w .1 .1 .0) b (op ∙ w .1 .0) (w .1 .1 .1)));
           written = λ id y j x x′ z a b w. written-ok k id y j x′ z (w .1 .0) b (op ∙ w .0) (w .1 .1);

@@ -2,8 +2,8 @@
 use Prim.Native.Nat.{ℕ, zero, suc, _+_, _-_, _<_, _≤_}
 use mathlib.Core.Path.{_≡_, refl, ap, sym, _∙_}
 use mathlib.Core.List.{List, [], _∷_, _++_, map}
-use mathlib.Core.Bool.{Bool, true, false, cond}
-use mathlib.Core.Option.{Option, none, some}
+use mathlib.Core.Bool.{Bool, false, cond}
+use mathlib.Core.Option.{some}
 use native.Mathlib.Omega.{arith}
 use native.Mathlib.Decide.{decLt}
 use lib.Dec.{ltb}
@@ -12,16 +12,16 @@ use borrow.Author.Tests.{lt-ltb, le-ltb}
 use Rattle.laws.proofs.Lists.{is-tabulate}
 use Rattle.table.specs.declared.index.Index.{Index}
 use Rattle.table.specs.Index.{indexOf}
-use Rattle.program.specs.Program.{kindsOf, procedureIn, localCount, parametersEnd, parameterKinds}
+use Rattle.program.specs.Program.{kindsOf, procedureIn, localCount, parametersEnd, parameterKinds, parameterCount}
 use Rattle.operands.specs.Flow.{onto}
 use Rattle.operands.specs.Operands.{kindsBefore}
 use Rattle.flow.specs.Walks.{Slot, empty, full, entry, starts, pushedOn as marksOn}
-use Rattle.locals.specs.Locals.{parameterCount}
-use Rattle.judged.specs.Judged.{localKinds, Procedure, Judged}
+use Rattle.walks.specs.Checked.{startsIn}
+use Rattle.judged.specs.Judged.{Judged}
 use Rattle.rules.specs.Machine.{Value}
 use Rattle.rules.specs.Step.{startLocals}
 use Rattle.rules.proofs.Indexed.{moduleIn}
-use Rattle.rules.proofs.Typing.{Has, hnil, hcons, Slots}
+use Rattle.rules.proofs.Typing.{Has, hnil, hcons}
 use Rattle.rules.proofs.Places.{enter}
 use Rattle.rules.proofs.Frames.{FrameOk}
 
@@ -82,7 +82,7 @@ entered {t} {T} {W} judged id q there e vs f =
       rest = [];
       O = [];
       G = [];
-      L = entry (λ (l : ℕ). false) (parameterCount t (procedureIn (indexOf t) q)) (localCount (procedureIn (indexOf t) q));
+      L = entry (startsIn t q) (parameterCount t (procedureIn (indexOf t) q)) (localCount (procedureIn (indexOf t) q));
       len = 0;
       gaps = refl;
       kinds = refl;

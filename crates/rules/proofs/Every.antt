@@ -3,12 +3,10 @@ use Prim.Native.Nat.{ℕ, zero, suc, _+_}
 use mathlib.Core.Path.{_≡_, refl, ap, sym, _∙_}
 use mathlib.Core.List.{List, [], _∷_, _++_}
 use Rattle.table.specs.declared.index.Index.{Index}
-use Rattle.table.specs.Index.{indexOf}
 use Rattle.rules.specs.Machine.{State, Outcome, next, finished, stopped, stuck}
 use Rattle.rules.specs.Step.{step}
-use Rattle.rules.specs.Calls.{Call, call, callsOf}
-use Rattle.rules.specs.History.{Base, Event, moment, ended, afterwards, Run, ran, afterMoment, rowUp, onward, go, begin, eventsOf, baseAfter, history, nothing}
-use Rattle.rules.specs.Run.{historyOf}
+use Rattle.rules.specs.Calls.{Call, call}
+use Rattle.rules.specs.History.{Base, Event, moment, ended, afterwards, Run, ran, afterMoment, rowUp, onward, go, begin, eventsOf, baseAfter, history}
 use Rattle.rules.specs.Chain.{Moments, spent, steps, done, Chained, no-call, one-call}
 use Rattle.rules.proofs.Changes.{clash}
 

@@ -2,31 +2,30 @@
 use Prim.Native.Nat.{ℕ, zero, suc, _+_, _<_, _≤_}
 use mathlib.Core.Path.{_≡_, refl, ap, sym, _∙_}
 use mathlib.Core.List.{List, [], _∷_, _++_, map}
-use mathlib.Core.Bool.{Bool, true, false, cond, _&&_, false≢true, true≢false}
+use mathlib.Core.Bool.{Bool, true, false, cond, _&&_}
 use mathlib.Core.Option.{Option, none, some}
 use mathlib.Core.Logic.{_⊎_, inl, inr, ⊎-elim}
 use native.Mathlib.Omega.{arith}
-use lib.ListN.{length, getD, set, drop, getElem? as nth}
+use lib.ListN.{length, set, getElem? as nth}
 use lib.Dec.{eqb}
 use borrow.Author.Tests.{eqb-true}
 use Rattle.table.specs.declared.index.Index.{Index}
 use Rattle.table.specs.Format.{opCall, maxResults}
-use Rattle.table.specs.Rows.{rowCount, rowAt}
-use Rattle.program.specs.Program.{number, recordOf, numberRef, recordRef, referenceTo, isRecord, isReference, procedureIn, typeIn, fieldKinds, resultKinds, codeOf}
+use Rattle.table.specs.Rows.{rowCount}
+use Rattle.program.specs.Program.{number, recordOf, numberRef, recordRef, procedureIn, typeIn, fieldKinds, resultKinds, codeOf, instructionIn}
 use Rattle.kinds.specs.Kinds.{good}
 use Rattle.operands.specs.Operands.{kindsBefore}
 use Rattle.operands.specs.Flow.{onto}
-use Rattle.flow.specs.Walks.{Slot, empty, full, pushedOn as marksOn}
+use Rattle.flow.specs.Walks.{Slot, pushedOn as marksOn}
 use Rattle.walks.specs.Checked.{WalkOf}
 use Rattle.judged.specs.Judged.{localKinds}
-use Rattle.rules.specs.Machine.{Value, num, obj, toLocal, toField, toRecord, Cell, gone, here, Entry, entry, Frame, frame, content, localOf, putLocal, findKey, dropKey, Target, aNumber, aRecord, stale, wrong, inCell, inLocal, numberIn, inField, target}
+use Rattle.rules.specs.Machine.{Value, num, obj, toLocal, toField, toRecord, Cell, gone, here, Entry, entry, Frame, frame, content, localOf, putLocal, findKey, dropKey, aRecord, stale, inCell, inLocal, target}
 use Rattle.rules.specs.Calls.{allNumbers}
-use Rattle.rules.specs.Ownership.{inFrames, inRecords, inStore, livesAt}
+use Rattle.rules.specs.Ownership.{inFrames}
 use Rattle.rules.proofs.Indexed.{moduleIn}
 use Rattle.rules.specs.Claim.{All, none-left, also, Owned}
 use Rattle.rules.proofs.Changes.{clash}
-use Rattle.rules.proofs.Sorts.{to-reference, record-plain, reference-is}
-use Rattle.rules.proofs.Typing.{Word, Fit, fnum, fobj, floc, ffld, frec, Has, hnil, hcons, Slots, Fields, dnil, dnum, dobj, CellOk, EntryOk, _⊑_, has-more, slots-more}
+use Rattle.rules.proofs.Typing.{Word, Fit, fnum, fobj, floc, ffld, frec, Has, Slots, Fields, dnil, dnum, dobj, CellOk, EntryOk, _⊑_, has-more, slots-more}
 use Rattle.rules.proofs.Places.{as-number, as-record, slot-read, slot-write, held-write}
 
 -- A frame that goes on at instruction `to` when values of the kinds `gap` have been pushed: the kinds of its operands are those that the judge found
@@ -44,12 +43,12 @@ pub record FrameOk (t : List ℕ) (ix : Index) (T W : List ℕ) (to : ℕ) (gap 
   pub kinds : kindsBefore t ix (procedureIn ix p) to ≡ good (onto gap rest)
   pub has : Has t ix T W (moduleIn ix p) ops rest O
   pub slots : Slots t ix T W (moduleIn ix p) ls (localKinds t (procedureIn ix p)) L
-  pub walk : WalkOf t (procedureIn ix p) len to L (marksOn G O)
+  pub walk : WalkOf t p len to L (marksOn G O)
 
 -- the frames under one of procedure q: each stands at the Call of the one above
 pub data Suspended (t : List ℕ) (ix : Index) (T W : List ℕ) : ℕ → List Frame → Type 0 where
   bottom : {q : ℕ} → allNumbers (resultKinds t (procedureIn ix q)) ≡ true → length (resultKinds t (procedureIn ix q)) ≤ maxResults → Suspended t ix T W q []
-  over : {q id p i : ℕ} {ops : List Value} {ls : List (Option Value)} {fs : List Frame} → rowAt (codeOf t (procedureIn ix p)) i .a ≡ opCall → rowAt (codeOf t (procedureIn ix p)) i .b ≡ q
+  over : {q id p i : ℕ} {ops : List Value} {ls : List (Option Value)} {fs : List Frame} → instructionIn t ix p i .a ≡ opCall → instructionIn t ix p i .b ≡ q
       → FrameOk t ix T W (i + 1) (resultKinds t (procedureIn ix q)) id p ops ls → Suspended t ix T W p fs → Suspended t ix T W q (frame id p i ops ls ∷ fs)
 
 pub data Stack (t : List ℕ) (ix : Index) (T W : List ℕ) : List Frame → Type 0 where
@@ -133,7 +132,7 @@ module _ {t : List ℕ} {ix : Index} {T W : List ℕ} where
     walk = f .walk;
   }
 
-  write-suspended-go : {q id p : ℕ} (i : ℕ) {ops : List Value} {ls : List (Option Value)} {fs : List Frame} (b : Bool) (f l x n : ℕ) → rowAt (codeOf t (procedureIn ix p)) i .a ≡ opCall → rowAt (codeOf t (procedureIn ix p)) i .b ≡ q
+  write-suspended-go : {q id p : ℕ} (i : ℕ) {ops : List Value} {ls : List (Option Value)} {fs : List Frame} (b : Bool) (f l x n : ℕ) → instructionIn t ix p i .a ≡ opCall → instructionIn t ix p i .b ≡ q
       → FrameOk t ix T W (i + 1) (resultKinds t (procedureIn ix q)) id p ops ls → Suspended t ix T W p fs
       → cond b (content (nth ls l)) (localOf fs f l) ≡ some (num x) → Word n → (localOf fs f l ≡ some (num x) → Suspended t ix T W p (putLocal fs f l (num n)))
       → Suspended t ix T W q (cond b (frame id p i ops (set ls l (some (num n))) ∷ fs) (frame id p i ops ls ∷ putLocal fs f l (num n)))

@@ -1,22 +1,22 @@
 -- What the frames of a state hold: a reference to a guarded field stands in a frame of the declaring module, and in none of a guestIn.
-use Prim.Native.Nat.{ℕ, zero, suc, _+_, _<_, _≤_}
+use Prim.Native.Nat.{ℕ, zero, suc, _+_}
 use mathlib.Core.Path.{_≡_, refl, ap, sym, _∙_}
 use mathlib.Core.List.{List, [], _∷_, List·Memᴰ·cases-cons, List·Memᴰ·not-nil}
 use mathlib.Core.Bool.{Bool, true, false, not, true≢false}
-use mathlib.Core.Option.{Option, none, some}
-use mathlib.Core.Logic.{_⊎_, inl, inr, ⊎-elim}
+use mathlib.Core.Option.{Option, some}
+use mathlib.Core.Logic.{_⊎_, ⊎-elim}
 use native.Mathlib.Omega.{arith}
 use lib.ListN.{length, getD, getElem? as nth}
 use Rattle.table.specs.declared.index.Index.{Index}
 use Rattle.table.specs.Index.{indexOf}
 use Rattle.program.specs.Program.{procedureIn}
 use Rattle.reach.specs.Reach.{Mem}
-use Rattle.flow.specs.Walks.{Slot, empty, full, markOf, pushedOn as marksOn}
+use Rattle.flow.specs.Walks.{Slot, empty, markOf, pushedOn as marksOn}
 use Rattle.leaks.specs.Leaks.{inTrusted}
 use Rattle.judging.specs.Judging.{AcceptedTable}
 use Rattle.judged.specs.Judged.{Judged}
-use Rattle.rules.specs.Machine.{Value, num, obj, toLocal, toField, toRecord, Frame, frame}
-use Rattle.rules.specs.Words.{moduleOf, declarer, guest, GuardedReference, Holds, operand, local}
+use Rattle.rules.specs.Machine.{Value, toField, Frame, frame}
+use Rattle.rules.specs.Words.{moduleOf, declarer, guest, GuardedReference, operand, local}
 use Rattle.rules.proofs.Indexed.{moduleIn, declarerIn, guestIn, guardedIn}
 use Rattle.rules.proofs.Worded.{guarded-is, declarer-is, module-is, guest-is}
 use Rattle.rules.specs.Claim.{All, none-left, also, Kept}

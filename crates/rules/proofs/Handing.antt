@@ -1,14 +1,13 @@
 -- What a step leaves of the frames, and where the references come from that the frame that ran holds after it.
-use Prim.Native.Nat.{ℕ, zero, suc, _+_, _-_, _/_, _%_, _<_, _≤_}
+use Prim.Native.Nat.{ℕ, zero, suc, _+_, _-_, _/_, _%_, _<_}
 use mathlib.Core.Path.{_≡_, refl, ap, sym, _∙_}
-use mathlib.Core.List.{List, [], _∷_, _++_, List·Memᴰ·head, List·Memᴰ·tail, List·Memᴰ·cases-cons, List·Memᴰ·not-nil}
+use mathlib.Core.List.{List, [], _∷_, List·Memᴰ·head, List·Memᴰ·tail, List·Memᴰ·cases-cons, List·Memᴰ·not-nil}
 use mathlib.Core.Bool.{Bool, true, false, cond, not, _&&_}
 use mathlib.Core.Option.{Option, none, some}
 use mathlib.Core.Logic.{_⊎_, inl, inr, ⊎-elim, _≢_}
 use native.Mathlib.Omega.{arith}
-use lib.ListN.{length, getD, set, replicate, getElem? as nth}
+use lib.ListN.{length, getD, set, getElem? as nth}
 use lib.Dec.{eqb, ltb}
-use Rattle.table.specs.declared.Row.{Row}
 use Rattle.table.specs.declared.index.Index.{Index}
 use Rattle.table.specs.declared.index.ProcedureEntry.{ProcedureEntry}
 use Rattle.table.specs.Rows.{rowAt}
@@ -17,7 +16,7 @@ use Rattle.reach.specs.Reach.{Mem}
 use Rattle.arithmetic.specs.declared.Calculated.{Calculated}
 use Rattle.arithmetic.specs.declared.Calculated.the-variants.{Value as Gives, OutOfRange, Unknown}
 use Rattle.arithmetic.specs.Arithmetic.{calculation}
-use Rattle.rules.specs.Machine.{Value, num, obj, toLocal, toField, toRecord, valueKind, Cell, gone, here, Entry, Frame, frame, State, state, Outcome, next, finished, stopped, stuck, liveCount, findKey, putLocal, Target, aNumber, aRecord, stale, wrong, inCell, target, writeFrames, writeRecords}
+use Rattle.rules.specs.Machine.{Value, num, obj, toLocal, toField, toRecord, valueKind, Cell, gone, here, Entry, Frame, frame, State, state, next, stuck, liveCount, findKey, putLocal, Target, aRecord, inCell, target, writeFrames}
 use Rattle.rules.specs.Step.{pushedOn, Taken, took, missing, taken, alsoTaken, withTaken, startLocals, returned, noneHeld, calculated, actions, instruction, effectAt, act, step}
 use Rattle.rules.specs.Limits.{maxFrames, maxRecords, maxEntries}
 use Rattle.rules.specs.Words.{bodyOf, Holds, operand, local}

@@ -2,23 +2,22 @@
 use Prim.Native.Nat.{ℕ, zero, suc, _+_, _-_, _^_, _<_, _≤_}
 use mathlib.Core.Path.{_≡_, refl, ap, sym, _∙_}
 use mathlib.Core.List.{List, [], _∷_, _++_, map}
-use mathlib.Core.Bool.{Bool, true, false, _&&_}
-use mathlib.Core.Option.{Option, none, some}
+use mathlib.Core.Bool.{Bool, true}
 use mathlib.Core.Logic.{_⊎_, inl, inr, ⊎-elim}
 use native.Mathlib.Omega.{arith}
 use borrow.Author.Tests.{eqb-true}
-use lib.ListN.{length, set, drop, replicate, length-append, length-replicate, length-map, length-drop, getElem? as nth}
+use lib.ListN.{length, drop, replicate, length-append, length-replicate, length-map, length-drop}
 use Rattle.table.specs.declared.index.Index.{Index}
 use Rattle.table.specs.Index.{indexOf}
 use Rattle.table.specs.Rows.{rowAt}
-use Rattle.program.specs.Program.{number, procedureIn, codeOf, localCount, parameterKinds}
+use Rattle.program.specs.Program.{number, procedureIn, localCount, parameterKinds}
 use Rattle.judged.specs.Judged.{Judged}
 use Rattle.rules.specs.Limits.{budgetSpent}
 use Rattle.rules.specs.Machine.{Value, num, Cell, gone, here, Entry, Frame, frame, State, state, Outcome, next, finished, stopped, stuck, liveCount}
-use Rattle.rules.specs.Step.{startLocals, instruction, step}
-use Rattle.rules.specs.Calls.{Call, call, allNumbers}
+use Rattle.rules.specs.Step.{instruction, step}
+use Rattle.rules.specs.Calls.{Call, allNumbers}
 use Rattle.rules.specs.History.{Base, base, Event, moment, ended, bury, restored, afterwards, Run, ran, rowUp, go, begin, baseAfter, nothing}
-use Rattle.rules.specs.Ownership.{inValues, inRecords, inStore, livesAt}
+use Rattle.rules.specs.Ownership.{inValues, inRecords, livesAt}
 use Rattle.rules.specs.Words.{Exists}
 use Rattle.rules.specs.Callable.{Callable, GoodCall}
 use Rattle.rules.specs.Claim.{All, none-left, also, Rising, Takes, Handed, Origin}
@@ -28,14 +27,14 @@ use Rattle.rules.proofs.Counts.{held-start}
 use Rattle.rules.proofs.Changes.{clash, Limited, limits, grows}
 use Rattle.rules.proofs.Sounds.{nth-app}
 use Rattle.rules.proofs.Typing.{Has, hnil, hcons, fnum, CellOk, _⊑_, snoc-last, cells-more, entries-more}
-use Rattle.rules.proofs.Frames.{FrameOk, bottom, Stack, runs, typeOf, Inv}
+use Rattle.rules.proofs.Frames.{bottom, Stack, runs, typeOf}
 use Rattle.rules.proofs.Entering.{entered}
 use Rattle.rules.proofs.Running.{Rest, OutcomeOk}
 use Rattle.rules.proofs.Cases.{and-both}
 use Rattle.rules.proofs.Steps.{StateOk, DidAt, step-ok}
 use Rattle.rules.proofs.Worded.{procedure-is}
 use Rattle.rules.proofs.Placed.{row-is}
-use Rattle.rules.proofs.Outcomes.{OutQ, goes, ends, stops, sticks}
+use Rattle.rules.proofs.Outcomes.{OutQ, goes}
 use Rattle.rules.proofs.Handing.{handed, handed-rising}
 
 -- Restored records: those of the beginning, the others gone

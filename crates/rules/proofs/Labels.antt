@@ -2,15 +2,12 @@
 use Prim.Native.Nat.{ℕ, zero, suc, _+_, _-_, _<_, _≤_}
 use mathlib.Core.Path.{_≡_, refl, ap, sym, _∙_}
 use mathlib.Core.List.{List, [], _∷_, map, List·Memᴰ·head, List·Memᴰ·tail, List·Memᴰ·cases-cons, List·Memᴰ·not-nil}
-use mathlib.Core.Bool.{Bool, true, false}
-use mathlib.Core.Option.{Option, none, some}
+use mathlib.Core.Bool.{Bool}
+use mathlib.Core.Option.{Option, some}
 use mathlib.Core.Logic.{_⊎_, inl, inr, ⊎-elim}
 use native.Mathlib.Omega.{arith}
 use native.Mathlib.Decide.{decLt}
 use lib.ListN.{length, getElem? as nth}
-use Rattle.table.specs.declared.index.TypeEntry.{TypeEntry}
-use Rattle.table.specs.declared.index.ProcedureEntry.{ProcedureEntry}
-use Rattle.table.specs.Format.{opCall}
 use Rattle.table.specs.Rows.{rowCount, rowAt}
 use Rattle.table.specs.Index.{indexOf, noType}
 use Rattle.program.specs.Program.{number, typeIn, procedureIn, fieldKinds, kindsOf, kindsFrom, localKind, localCount, codeOf}
@@ -18,9 +15,9 @@ use Rattle.reach.specs.Reach.{Mem}
 use Rattle.judging.specs.Judging.{AcceptedTable}
 use Rattle.judged.specs.Judged.{Judged, localKinds}
 use Rattle.judged.proofs.Stretches.{kind-there}
-use Rattle.rules.specs.Machine.{Value, valueKind, num, obj, toLocal, toField, toRecord, Cell, gone, here, Entry, Frame, frame}
-use Rattle.rules.specs.Ownership.{inValue, inValues, inSlot, inLocals, inFrames, livesAt}
-use Rattle.rules.specs.Words.{procedureCount, kindsIn, bodyOf, instructionRow, Holds, operand, local, Exists, Existed}
+use Rattle.rules.specs.Machine.{Value, obj, Cell, Entry, Frame, frame}
+use Rattle.rules.specs.Ownership.{inValues, inLocals, inFrames}
+use Rattle.rules.specs.Words.{kindsIn, bodyOf, Holds, operand, local, Existed}
 use Rattle.rules.specs.Claim.{All, none-left, also, Owned, Labelled, Typed, typed, Linked, first, under}
 use Rattle.rules.proofs.Counts.{same-one, alive-gone}
 use Rattle.rules.proofs.Changes.{clash}

@@ -11,7 +11,7 @@ use Rattle.table.specs.Index.{indexOf}
 use Rattle.judging.specs.Judging.{judgeOf}
 use Rattle.judged.specs.Judged.{Bytes, Judged}
 use Rattle.judged.proofs.Judged.{judged}
-use Rattle.rules.specs.Machine.{Value, obj, Cell, here, Entry, entry, State, state, Outcome, next, finished, stopped, stuck}
+use Rattle.rules.specs.Machine.{Value, obj, Cell, here, Entry, entry, Outcome}
 use Rattle.rules.specs.Calls.{listOf, callsOf}
 use Rattle.rules.specs.History.{Base, base, Event, moment, ended, history, nothing, lastBase}
 use Rattle.rules.specs.Ascii.{ascii}

@@ -6,7 +6,7 @@ use mathlib.Core.Bool.{Bool, true, false, cond}
 use mathlib.Core.Option.{Option, none, some}
 use native.Mathlib.Omega.{arith}
 use lib.ListN.{getD}
-use Rattle.rules.specs.Machine.{Value, num, obj, toLocal, toField, toRecord, Cell, Entry, Frame, frame, State, state, Outcome, next, finished, stopped, stuck, Target, aNumber, aRecord, stale, wrong}
+use Rattle.rules.specs.Machine.{Value, num, obj, toLocal, toField, toRecord, Cell, Entry, Frame, State, state, Outcome, next, finished, stopped, stuck, Target, aNumber, aRecord, stale, wrong}
 use Rattle.rules.specs.Step.{one, two, withNumber, withRecord, numberAt, recordAt, fieldsAt, withLocal, isObject, fillable, nothingUnder, fieldReference, underKey}
 
 -- G of the frames and their count where it goes on, E of the results and the state where the call is done

@@ -2,24 +2,23 @@
 use Prim.Native.Nat.{ℕ, zero, suc, _+_, _-_, _<_, _≤_}
 use mathlib.Core.Path.{_≡_, refl, ap, sym, _∙_}
 use mathlib.Core.List.{List, [], _∷_, map, List·Memᴰ·head, List·Memᴰ·tail, List·Memᴰ·cases-cons, List·Memᴰ·not-nil}
-use mathlib.Core.Option.{Option, none, some}
-use mathlib.Core.Logic.{_⊎_, inl, inr, ⊎-elim}
+use mathlib.Core.Option.{Option, some}
+use mathlib.Core.Logic.{_⊎_, ⊎-elim}
 use native.Mathlib.Omega.{arith}
 use native.Mathlib.Decide.{decLt}
-use lib.ListN.{length, getElem? as nth}
+use lib.ListN.{getElem? as nth}
 use Rattle.table.specs.Index.{indexOf}
-use Rattle.program.specs.Program.{number, recordOf, typeIn, fieldKinds}
+use Rattle.program.specs.Program.{recordOf, typeIn, fieldKinds}
 use Rattle.reach.specs.Reach.{Mem}
 use Rattle.judged.specs.Judged.{Judged}
 use Rattle.rules.specs.Machine.{Value, valueKind, num, obj, toLocal, toField, toRecord, Cell, gone, here, Entry, entry, Frame}
-use Rattle.rules.specs.Ownership.{same, inValue, inValues, inFrames, inFields, inRecords, inStore, livesAt}
-use Rattle.rules.specs.Words.{Exists, IsEntry, NumberIn}
+use Rattle.rules.specs.Ownership.{same, inValue, inValues, inRecords, inStore, livesAt}
+use Rattle.rules.specs.Words.{Exists, IsEntry}
 use Rattle.rules.specs.Claim.{All, none-left, also, Plain, Owned, Nested, Reached, published-there, nested-there}
 use Rattle.rules.proofs.Counts.{same-one, alive-gone}
 use Rattle.rules.proofs.Changes.{clash}
 use Rattle.rules.proofs.Typing.{Fields, dnil, dnum, dobj, CellOk, EntryOk}
-use Rattle.rules.proofs.Frames.{typeOf, cell-at, field-num}
-use Rattle.rules.proofs.Running.{Rest}
+use Rattle.rules.proofs.Frames.{typeOf, cell-at}
 
 -- a record in a field, by its place
 field-place : {T : List ℕ} {vs : List Value} {ks : List ℕ} (id y : ℕ) → Fields T vs ks → Mem (obj id y) vs → (j : ℕ) × (nth ks j ≡ some (recordOf y)) × (nth T id ≡ some y)

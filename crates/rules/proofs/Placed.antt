@@ -1,8 +1,8 @@
 -- The row that comes up, as a row of the table: the instruction is what stands there, and its module is counted from the rows above it.
-use Prim.Native.Nat.{ℕ, zero, suc, _+_, _-_, _<_, _≤_}
+use Prim.Native.Nat.{ℕ, _+_, _-_, _<_, _≤_}
 use mathlib.Core.Path.{_≡_, refl, ap, sym, _∙_}
 use mathlib.Core.List.{List}
-use mathlib.Core.Bool.{Bool, true, false, not}
+use mathlib.Core.Bool.{false, not}
 use native.Mathlib.Omega.{arith}
 use native.Mathlib.Decide.{decLt}
 use lib.Dec.{eqb}
@@ -10,9 +10,9 @@ use Rattle.laws.specs.Lists.{count}
 use Rattle.table.specs.declared.index.ProcedureEntry.{ProcedureEntry}
 use Rattle.table.specs.Format.{moduleKind, instructionKind}
 use Rattle.table.specs.Rows.{rowCount, rowAt, kindAt, isKind}
-use Rattle.table.specs.Index.{indexOf, indexedRows, ownerAt, procedureAt, codeStart, codeEnd}
+use Rattle.table.specs.Index.{indexOf, ownerAt, procedureAt, codeStart, codeEnd}
 use Rattle.table.proofs.Laws.{not-kind, procedure-code}
-use Rattle.program.specs.Program.{procedureIn, codeOf}
+use Rattle.program.specs.Program.{codeOf, instructionIn}
 use Rattle.judging.specs.Judging.{AcceptedTable}
 use Rattle.walks.proofs.Rows.{own, rowOf, entry-is, row-kind, row-kinds, parts, code-count, code-row, count-stretch}
 use Rattle.walks.proofs.Guest.{moduleRow}
@@ -37,7 +37,7 @@ module _ (t : List ℕ) (a : AcceptedTable t) (q : ℕ) (there : q < indexOf t .
       let d : own t q .end ≡ bodyOf t q .end = ap (λ (p : ProcedureEntry). p .end) (procedure-is t a q there few) in
       omega (arith, low, start-is, e, d)
 
-  pub row-is : rowAt (codeOf t (own t q)) i ≡ rowAt t (own t q .code + i)
+  pub row-is : instructionIn t (indexOf t) q i ≡ rowAt t (own t q .code + i)
   row-is = code-row t q there few i inside ∙ sym (ap (λ (k : ℕ). rowAt t (k + i)) start-is)
 
   pub kind-is : kindAt t (own t q .code + i) ≡ instructionKind

@@ -1,19 +1,19 @@
 -- Fields and locals: what is taken out of them and put into them fits.
-use Prim.Native.Nat.{ℕ, zero, suc, _+_, _<_, _≤_}
+use Prim.Native.Nat.{ℕ, zero, suc, _+_}
 use mathlib.Core.Path.{_≡_, refl, ap, sym, _∙_}
 use mathlib.Core.List.{List, [], _∷_, _++_, map}
-use mathlib.Core.Bool.{Bool, true, false, cond, false≢true, true≢false}
+use mathlib.Core.Bool.{Bool, true, false, true≢false}
 use mathlib.Core.Option.{Option, none, some}
 use native.Mathlib.Omega.{arith}
-use lib.ListN.{length, getD, set, drop, replicate, getElem? as nth}
+use lib.ListN.{length, getD, set, replicate, getElem? as nth}
 use Rattle.table.specs.declared.index.Index.{Index}
-use Rattle.program.specs.Program.{number, recordOf, numberRef, recordRef, referenceTo, isRecord, isReference}
+use Rattle.program.specs.Program.{number, recordOf, isRecord, isReference}
 use Rattle.flow.specs.Walks.{Slot, empty, full}
-use Rattle.rules.specs.Machine.{Value, num, obj, toLocal, toField, toRecord, Outcome, stuck, content}
-use Rattle.rules.specs.Step.{startLocals, isObject, noneHeld, fillable}
-use Rattle.rules.specs.Ownership.{inValue, inValues, inSlot, inLocals}
+use Rattle.rules.specs.Machine.{Value, num, obj, Outcome, content}
+use Rattle.rules.specs.Step.{startLocals, noneHeld, fillable}
+use Rattle.rules.specs.Ownership.{inValue, inSlot, inLocals}
 use Rattle.rules.proofs.Changes.{clash}
-use Rattle.rules.proofs.Sorts.{record-is, record-plain, reference-is, reference-loose, to-reference, to-loose}
+use Rattle.rules.proofs.Sorts.{record-is, record-plain, reference-is, to-reference}
 use Rattle.rules.proofs.Typing.{Word, Fit, fnum, fobj, floc, ffld, frec, Has, hnil, hcons, Slots, snil, sempty, sfull, Fields, dnil, dnum, dobj, fit-record}
 
 -- no kind of a list is a reference

@@ -1,27 +1,23 @@
 -- A running frame whose instruction has taken its operands, and how it goes on.
-use Prim.Native.Nat.{ℕ, zero, suc, _+_, _<_, _≤_}
-use mathlib.Core.Path.{_≡_, refl, ap, sym, _∙_}
-use mathlib.Core.List.{List, [], _∷_, _++_, map}
-use mathlib.Core.Bool.{Bool, true, false, cond}
-use mathlib.Core.Option.{Option, none, some}
+use Prim.Native.Nat.{ℕ, suc, _+_, _<_, _≤_}
+use mathlib.Core.Path.{_≡_, refl}
+use mathlib.Core.List.{List, [], _∷_, map}
+use mathlib.Core.Bool.{Bool}
+use mathlib.Core.Option.{Option, some}
 use native.Mathlib.Omega.{arith}
-use lib.ListN.{length, getD, set, drop, getElem? as nth}
+use lib.ListN.{length, drop, getElem? as nth}
 use Rattle.table.specs.Format.{opWriteRef, maxResults}
 use Rattle.table.specs.Index.{indexOf}
-use Rattle.table.specs.Rows.{rowCount, rowAt}
-use Rattle.program.specs.Program.{procedureIn, codeOf}
+use Rattle.program.specs.Program.{procedureIn, codeOf, instructionIn}
 use Rattle.reach.specs.Reach.{Mem}
-use Rattle.kinds.specs.Effects.{Effect}
-use Rattle.kinds.specs.Kinds.{good}
-use Rattle.operands.specs.Operands.{kindsBefore}
-use Rattle.operands.specs.Flow.{onto, effectIn, Flow}
+use Rattle.operands.specs.Flow.{onto, effectIn}
 use Rattle.flow.specs.Steps.{nexts}
 use Rattle.flow.specs.Walks.{Slot, pushes, localsAfter, marksAfter, goesOn, pushedOn as marksOn}
-use Rattle.steps.specs.Steps.{nothingGiven, stepAt}
-use Rattle.walks.specs.Checked.{WalkOf}
+use Rattle.leaks.specs.Leaks.{guardedMarks}
+use Rattle.walks.specs.Checked.{stepIn, WalkOf}
 use Rattle.walks.proofs.Regular.{step-takes}
 use Rattle.judged.specs.Judged.{localKinds, Instruction, Judged}
-use Rattle.rules.specs.Machine.{Value, num, obj, toLocal, toField, toRecord, Cell, Entry, Frame, frame, State, state, Outcome, next, finished, stopped, stuck, target}
+use Rattle.rules.specs.Machine.{Value, num, obj, toLocal, toField, toRecord, Cell, Entry, Frame, frame, state, Outcome, next, finished, stopped, stuck, target}
 use Rattle.rules.specs.Step.{pushedOn}
 use Rattle.rules.specs.Ownership.{inValues, inLocals, inFrames, inRecords, inStore, livesAt}
 use Rattle.rules.proofs.Indexed.{moduleIn, declarerIn}
@@ -55,7 +51,7 @@ pub record Running (t : List ℕ) (T W : List ℕ) (id p i : ℕ) (ops vs under 
   pub O : List Bool
   pub len : ℕ
   pub slots : Slots t (indexOf t) T W (moduleIn (indexOf t) p) ls (localKinds t (procedureIn (indexOf t) p)) L
-  pub walk : WalkOf t (procedureIn (indexOf t) p) len i L O
+  pub walk : WalkOf t p len i L O
   pub suspended : Suspended t (indexOf t) T W p fs
   pub types : map typeOf h ≡ T
   pub serial : length W ≡ n
@@ -108,14 +104,14 @@ module _ {t : List ℕ} {T W : List ℕ} {id p i : ℕ} {ops vs under : List Val
   given = effectIn t (indexOf t) (procedureIn (indexOf t) p) (R .instr .flow .top) i .gives
 
   abbrev pub pushedMarks : List Bool
-  pushedMarks = pushes (stepAt t (indexOf t) nothingGiven (procedureIn (indexOf t) p) i) (R .L)
+  pushedMarks = pushes (stepIn t p i) (R .L) (R .O)
 
   abbrev pub localsThen : List Slot
-  localsThen = localsAfter (stepAt t (indexOf t) nothingGiven (procedureIn (indexOf t) p) i) (R .L) (R .O)
+  localsThen = localsAfter (stepIn t p i) (R .L) (R .O)
 
   -- what the step did to records and store
   abbrev pub Did : List Cell → List Entry → Type 0
-  Did = Change (declarerIn (indexOf t)) (moduleIn (indexOf t) p) (rowAt (codeOf t (procedureIn (indexOf t) p)) i .a) (rowAt (codeOf t (procedureIn (indexOf t) p)) i .b) ops h st
+  Did = Change (declarerIn (indexOf t)) (moduleIn (indexOf t) p) (instructionIn t (indexOf t) p i .a) (instructionIn t (indexOf t) p i .b) ops h st
 
   -- the frame goes on at instruction j with the values ws pushed, where there may be more records and frames
   module _ {U X : List ℕ} (more : _⊑_ T U) (later : _⊑_ W X) where
@@ -127,13 +123,13 @@ module _ {t : List ℕ} {T W : List ℕ} {id p i : ℕ} {ops vs under : List Val
       there = R .there;
       inside = R .instr .inside j m;
       rest = onto given (R .instr .flow .rest);
-      O = marksOn pushedMarks (drop (stepAt t (indexOf t) nothingGiven (procedureIn (indexOf t) p) i .takes) (R .O));
+      O = marksOn pushedMarks (drop (stepIn t p i .takes) (R .O));
       G = [];
       L = localsThen;
       len = suc (R .len);
       gaps = refl;
       kinds = R .instr .follow j m;
-      has = has-push a (has-more more later (rw (← (step-takes t (indexOf t) nothingGiven (procedureIn (indexOf t) p) (R .instr .flow .top) i)) at (R .left)));
+      has = has-push a (has-more more later (rw (← (step-takes t (indexOf t) (guardedMarks t) (procedureIn (indexOf t) p) (R .instr .flow .top) i)) at (R .left)));
       slots = s;
       walk = goesOn (R .walk) m;
     }
@@ -147,13 +143,13 @@ module _ {t : List ℕ} {T W : List ℕ} {id p i : ℕ} {ops vs under : List Val
       there = R .there;
       inside = R .instr .inside (i + 1) m;
       rest = R .instr .flow .rest;
-      O = drop (stepAt t (indexOf t) nothingGiven (procedureIn (indexOf t) p) i .takes) (R .O);
+      O = drop (stepIn t p i .takes) (R .O);
       G = pushedMarks;
       L = localsThen;
       len = suc (R .len);
       gaps = l;
       kinds = R .instr .follow (i + 1) m;
-      has = has-more more later (rw (← (step-takes t (indexOf t) nothingGiven (procedureIn (indexOf t) p) (R .instr .flow .top) i)) at (R .left));
+      has = has-more more later (rw (← (step-takes t (indexOf t) (guardedMarks t) (procedureIn (indexOf t) p) (R .instr .flow .top) i)) at (R .left));
       slots = slots-more more later s;
       walk = goesOn (R .walk) m;
     }
@@ -169,7 +165,7 @@ module _ {t : List ℕ} {T W : List ℕ} {id p i : ℕ} {ops vs under : List Val
   then j m a s e o = record { T = T; W = W; types = R .types; serial = R .serial; frames = runs (goes-on j m a s) (R .suspended); records = R .records; store = e; owned = o }
 
   -- records and store as they were
-  pub keeps : (rowAt (codeOf t (procedureIn (indexOf t) p)) i .a ≡ opWriteRef → ⊥) → (j : ℕ) → Mem j (nexts (codeOf t (procedureIn (indexOf t) p)) i) → {ws : List Value} {ls′ : List (Option Value)} → Has t (indexOf t) T W (moduleIn (indexOf t) p) ws given pushedMarks
+  pub keeps : (instructionIn t (indexOf t) p i .a ≡ opWriteRef → ⊥) → (j : ℕ) → Mem j (nexts (codeOf t (procedureIn (indexOf t) p)) i) → {ws : List Value} {ls′ : List (Option Value)} → Has t (indexOf t) T W (moduleIn (indexOf t) p) ws given pushedMarks
       → Slots t (indexOf t) T W (moduleIn (indexOf t) p) ls′ (localKinds t (procedureIn (indexOf t) p)) localsThen → Owned (frame id p j (pushedOn ws under) ls′ ∷ fs) h st
       → OutcomeOk t Did (next (state (frame id p j (pushedOn ws under) ls′ ∷ fs) h st n))
   keeps c j m a s o = (then j m a s (R .store) o, same (λ q a y j x under r. c q) refl refl)

@@ -1,31 +1,29 @@
 -- A step of an accepted table: what comes up has its operands, is not stuck, and keeps what holds.
-use Prim.Native.Nat.{ℕ, zero, suc, _+_, _<_, _≤_}
+use Prim.Native.Nat.{ℕ, zero, suc, _≤_}
 use mathlib.Core.Path.{_≡_, refl, ap, sym, _∙_}
 use mathlib.Core.List.{List, [], _∷_, map}
-use mathlib.Core.Bool.{Bool, true, false, cond}
+use mathlib.Core.Bool.{Bool, true}
 use mathlib.Core.Option.{Option}
 use native.Mathlib.Omega.{arith}
-use lib.ListN.{length, getD}
-use Rattle.table.specs.declared.index.Index.{Index}
+use lib.ListN.{length}
 use Rattle.table.specs.Index.{indexOf}
-use Rattle.table.specs.Rows.{rowCount, rowAt}
-use Rattle.program.specs.Program.{procedureIn, codeOf}
+use Rattle.program.specs.Program.{procedureIn, instructionIn}
 use Rattle.kinds.specs.Kinds.{good}
 use Rattle.kinds.specs.Effects.{Effect, effects}
-use Rattle.operands.specs.Flow.{onto, effectIn, Flow}
+use Rattle.operands.specs.Flow.{onto, effectIn}
 use Rattle.flow.specs.Walks.{pushedOn as marksOn}
 use Rattle.judged.specs.Judged.{Instruction, Judged}
-use Rattle.rules.specs.Machine.{Value, valueKind, Cell, Entry, Frame, frame, State, state, Outcome, next, finished, stopped, stuck}
+use Rattle.rules.specs.Machine.{Value, valueKind, Cell, Entry, Frame, frame, State, state, Outcome, stuck}
 use Rattle.rules.specs.Step.{taken, took, topKind, instruction, effectAt, act, step}
 use Rattle.rules.specs.Ownership.{inValues}
 use Rattle.rules.proofs.Indexed.{moduleIn, declarerIn}
 use Rattle.rules.specs.Claim.{Owned}
 use Rattle.rules.proofs.Counts.{held-rev}
 use Rattle.rules.proofs.Changes.{Change}
-use Rattle.rules.proofs.Typing.{Has, has-kinds, Took, take-off}
+use Rattle.rules.proofs.Typing.{has-kinds, Took, take-off}
 use Rattle.rules.proofs.Frames.{FrameOk, Suspended, Stack, runs, Inv}
 use Rattle.rules.proofs.Instructions.{effect-at, effect-same}
-use Rattle.rules.proofs.Running.{OutcomeOk, Running, Did}
+use Rattle.rules.proofs.Running.{OutcomeOk, Running}
 use Rattle.rules.proofs.Cases.{Case, ok-pop, ok-load, ok-mv, ok-cp, ok-st, ok-borrow, ok-read, ok-write, ok-field, ok-pack, ok-unpack, ok-to, ok-from, ok-global, ok-exists, ok-call, ok-ret, ok-branch, ok-cond, ok-op}
 
 -- all opcodes
@@ -73,7 +71,7 @@ StateOk t (state fs h st n) = Inv t (indexOf t) fs h st n
 abbrev pub DidAt : List ℕ → State → List Cell → List Entry → Type 0
 DidAt t (state [] h st n) h′ st′ = ⊥
 DidAt t (state (frame id p i ops ls ∷ fs) h st n) h′ st′ =
-    Change (declarerIn (indexOf t)) (moduleIn (indexOf t) p) (rowAt (codeOf t (procedureIn (indexOf t) p)) i .a) (rowAt (codeOf t (procedureIn (indexOf t) p)) i .b) ops h st h′ st′
+    Change (declarerIn (indexOf t)) (moduleIn (indexOf t) p) (instructionIn t (indexOf t) p i .a) (instructionIn t (indexOf t) p i .b) ops h st h′ st′
 
 module _ (t : List ℕ) (judged : Judged t (indexOf t)) where
   -- a running frame and the operands that its instruction takes
@@ -94,13 +92,13 @@ module _ (t : List ℕ) (judged : Judged t (indexOf t)) where
     -- the effect is the one that the judge found
     effect-found : effectAt t (indexOf t) p i ops ≡ effect
     unfolding effectAt effects onto
-    effect-found = go (rowAt (codeOf t (procedureIn (indexOf t) p)) i .a) refl
+    effect-found = go (instructionIn t (indexOf t) p i .a) refl
       where
-        popped : rowAt (codeOf t (procedureIn (indexOf t) p)) i .a ≡ 0 → topKind ops ≡ instr .flow .top
+        popped : instructionIn t (indexOf t) p i .a ≡ 0 → topKind ops ≡ instr .flow .top
         popped e = top-is ops (instr .flow .top) (instr .flow .rest)
             (has-kinds (f .has) ∙ kinds-are ∙ ap (λ (x : Effect). onto (x .takes) (instr .flow .rest)) (effect-at t (indexOf t) (procedureIn (indexOf t) p) i 0 (instr .flow .top) e))
 
-        go : (a : ℕ) → rowAt (codeOf t (procedureIn (indexOf t) p)) i .a ≡ a → effectIn t (indexOf t) (procedureIn (indexOf t) p) (topKind ops) i ≡ effect
+        go : (a : ℕ) → instructionIn t (indexOf t) p i .a ≡ a → effectIn t (indexOf t) (procedureIn (indexOf t) p) (topKind ops) i ≡ effect
         go zero e = ap (λ (k : ℕ). effectIn t (indexOf t) (procedureIn (indexOf t) p) k i) (popped e)
         go (suc a) e = effect-same t (indexOf t) (procedureIn (indexOf t) p) i a (topKind ops) (instr .flow .top) e
 
@@ -138,7 +136,7 @@ module _ (t : List ℕ) (judged : Judged t (indexOf t)) where
     where
       go : (fs : List Frame) → Stack t (indexOf t) (v .T) (v .W) fs → Owned fs h st → OutcomeOk t (DidAt t (state fs h st n)) (step t (indexOf t) (state fs h st n))
       go fs (runs {id} {p} {i} {ops} {ls} {fs = gs} f s) o =
-          rw (effect-found f, instr f .flow .fit, takes-off f .found) (by-opcode (running v f s o) (rowAt (codeOf t (procedureIn (indexOf t) p)) i .a) (instr f .opcode) refl)
+          rw (effect-found f, instr f .flow .fit, takes-off f .found) (by-opcode (running v f s o) (instructionIn t (indexOf t) p i .a) (instr f .opcode) refl)
 
   -- what comes up has its operands, and is not stuck
   not-stuck : (C : List Cell → List Entry → Type 0) (o : Outcome) → OutcomeOk t C o → o ≡ stuck → ⊥

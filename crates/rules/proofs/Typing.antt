@@ -1,12 +1,11 @@
 -- Values fit their kinds and marks: what holds of every value on the way.
-use Prim.Native.Nat.{ℕ, zero, suc, _+_, _<_, _≤_}
+use Prim.Native.Nat.{ℕ, zero, suc, _+_, _<_}
 use mathlib.Core.Path.{_≡_, refl, ap, sym, _∙_}
 use mathlib.Core.List.{List, [], _∷_, _++_, map}
-use mathlib.Core.Bool.{Bool, true, false, cond, false≢true, true≢false}
+use mathlib.Core.Bool.{Bool, true, false, true≢false}
 use mathlib.Core.Option.{Option, none, some}
 use native.Mathlib.Omega.{arith}
-use lib.ListN.{length, getD, set, drop, replicate, getElem? as nth}
-use lib.Dec.{eqb}
+use lib.ListN.{length, getD, drop, getElem? as nth}
 use borrow.Author.Tests.{eq-eqb}
 use Rattle.table.specs.declared.index.Index.{Index}
 use Rattle.program.specs.Program.{number, recordOf, numberRef, recordRef, referenceTo, isRecord, isReference, procedureIn, typeIn, fieldKinds}
@@ -14,13 +13,10 @@ use Rattle.operands.specs.Flow.{onto}
 use Rattle.flow.specs.Walks.{Slot, empty, full, pushedOn as marksOn}
 use Rattle.judged.specs.Judged.{localKinds}
 use Rattle.arithmetic.specs.Arithmetic.{pastNumbers}
-use Rattle.rules.specs.Machine.{Value, num, obj, toLocal, toField, toRecord, valueKind, Cell, gone, here, Entry, entry, Frame, frame, content}
-use Rattle.rules.specs.Step.{pushedOn, Taken, took, missing, taken, alsoTaken, startLocals, isObject, noneHeld}
-use Rattle.rules.specs.Ownership.{inValue, inValues, inSlot, inLocals}
+use Rattle.rules.specs.Machine.{Value, num, obj, toLocal, toField, toRecord, valueKind, Cell, gone, here, Entry, entry}
+use Rattle.rules.specs.Step.{pushedOn, took, taken, isObject}
 use Rattle.rules.proofs.Indexed.{declarerIn, guardedIn}
 use Rattle.rules.specs.Claim.{All, none-left, also}
-use Rattle.rules.proofs.Changes.{clash}
-use Rattle.rules.proofs.Sorts.{record-is, record-plain, reference-is, reference-loose, to-reference, to-loose}
 
 -- 64 bits
 abbrev pub Word : ℕ → Type 0

@@ -1,39 +1,35 @@
 -- In an accepted table the words of demand 3, said of rows, are those that the index gives.
-use Prim.Native.Nat.{ℕ, zero, suc, _+_, _-_, _<_, _≤_, min}
+use Prim.Native.Nat.{ℕ, zero, suc, _+_, _-_, _<_, _≤_}
 use mathlib.Core.Path.{_≡_, refl, ap, sym, _∙_}
-use mathlib.Core.Bool.{Bool, true, false, cond, not, _&&_, true≢false, false≢true}
+use mathlib.Core.Bool.{Bool, true, false, not, _&&_, true≢false, false≢true}
 use mathlib.Core.List.{List, []}
 use native.Mathlib.Omega.{arith}
 use native.Mathlib.Decide.{decLt}
 use native.Mathlib.Numerals.{add-one}
-use borrow.Author.Tests.{eqb-true, eq-eqb, ne-eqb, eqb-false}
+use borrow.Author.Tests.{eqb-true, eq-eqb}
 use lib.Dec.{eqb}
 use lib.ListN.{getD, List·getD-eq-default}
 use Rattle.laws.specs.Lists.{member, every, count, nth, entries}
-use Rattle.laws.proofs.Lists.{every-at, count-zero, count-yes, count-no, nth-none, entries-at, entryOf-at, entryOf-none, length-entries}
-use Rattle.table.specs.declared.index.Index.{Index}
+use Rattle.laws.proofs.Lists.{every-at, count-yes, count-no, nth-none, entries-at, entryOf-at, entryOf-none, length-entries}
 use Rattle.table.specs.declared.index.TypeEntry.{TypeEntry}
 use Rattle.table.specs.declared.index.ProcedureEntry.{ProcedureEntry}
 use Rattle.table.specs.declared.Row.{Row}
 use Rattle.table.specs.Format.{moduleKind, typeKind, fieldKind, procedureKind}
 use Rattle.table.specs.Rows.{rowCount, rowAt, kindAt, isKind}
 use Rattle.table.specs.Verdicts.{valueOf}
-use Rattle.table.specs.Index.{indexOf, indexedRows, noType, ownerAt, typeAt, procedureAt, runEnd}
+use Rattle.table.specs.Index.{indexOf, indexedRows, noType, ownerAt, typeAt, procedureAt}
 use Rattle.table.specs.Procedures.{procedureRow}
 use Rattle.table.proofs.Laws.{row-outside}
-use Rattle.program.specs.Program.{typeIn, procedureIn, fieldRow, codeOf}
+use Rattle.program.specs.Program.{typeIn, procedureIn, fieldRow}
 use Rattle.program.proofs.Laws.{nth-below, procedure-there}
 use Rattle.program.proofs.Passes.{unfaulted}
-use Rattle.rows.specs.declared.Above.{Above}
 use Rattle.rows.specs.Rows.{faultAt, rowFault, misplaced, mayFollow, aboveAt}
 use Rattle.leaks.specs.Leaks.{inTrusted}
 use Rattle.judging.specs.Judging.{judgeOf, AcceptedTable}
 use Rattle.judging.proofs.Accepts.{accepting}
 use Rattle.judging.proofs.Values.{value-small}
 use Rattle.judging.proofs.Sizes.{rows-fine, nth-hit}
-use Rattle.walks.proofs.Rows.{count-nth}
 use Rattle.walks.proofs.Guest.{moduleRow, module-here}
-use Rattle.judged.specs.Judged.{Judged}
 use Rattle.judged.proofs.Counts.{row-trust, type-few}
 use Rattle.rules.specs.Words.{typeCount, procedureCount, typeRow, moduleOf, declarer, moduleAbove, inGuest, guest, guardedField}
 use Rattle.rules.proofs.Indexed.{moduleIn, declarerIn, guestIn, guardedIn}

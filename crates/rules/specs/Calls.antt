@@ -1,17 +1,20 @@
 -- The call list: refusals 15 and 16 of document 01, and the calls of a good list.
 use Prim.Native.Nat.{ℕ, zero, suc, _+_, _-_, _%_}
-use mathlib.Core.Bool.{Bool, true, false, cond, not, _&&_, _||_}
+use mathlib.Core.Bool.{Bool, true, cond, not, _&&_, _||_}
 use mathlib.Core.List.{List, [], _∷_}
 use lib.Dec.{eqb, ltb, leb}
 use lib.ListN.{length}
 use Rattle.table.specs.declared.Row.{Row}
 use Rattle.table.specs.declared.Verdict.{Verdict}
-use Rattle.table.specs.declared.Verdict.the-variants.{Accepted, Refused}
+use Rattle.table.specs.declared.Verdict.the-variants.{Refused}
 use Rattle.table.specs.declared.index.Index.{Index}
 use Rattle.table.specs.declared.index.ProcedureEntry.{ProcedureEntry}
 use Rattle.table.specs.Format.{rowBytes}
 use Rattle.table.specs.Rows.{rowCount, rowAt, isKind}
 use Rattle.table.specs.Verdicts.{passOver}
+use Rattle.table.specs.Flags
+use Rattle.table.specs.Refusals
+use Rattle.table.specs.Refusals.{badList}
 use Rattle.program.specs.Program.{number, procedureIn, parameterKinds, resultKinds}
 
 -- kinds of list rows: a call (B procedure, C budget), one argument of the call above (D)
@@ -53,7 +56,7 @@ allNumbers (k ∷ ks) = eqb k number && allNumbers ks
 
 -- 16: no such public procedure, a parameter or result that is no number, a wrong number of arguments, or a budget out of range
 abbrev pub isPublic : List ℕ → ProcedureEntry → Bool
-isPublic t p = eqb (rowAt t (p .row) .a) 1
+isPublic t p = Flags.isPublic (rowAt t (p .row))
 
 unfoldable pub noSuchProcedure : List ℕ → Index → ℕ → Bool
 noSuchProcedure t ix q = leb (ix .procedures) q || not (isPublic t (procedureIn ix q))
@@ -73,13 +76,13 @@ badCall t ix row args = noSuchProcedure t ix (row .b) || notNumbers t ix (row .b
 -- the lowest number that row i of the list l earns, 0 for none
 unfoldable pub listFault : List ℕ → Index → List ℕ → ℕ → ℕ
 listFault t ix l i =
-    cond (badKind (rowAt l i) || unusedByte (rowAt l i) || argumentFirst (rowAt l i) i) 15
-    (cond (eqb (rowAt l i .kind) callRow && badCall t ix (rowAt l i) (arguments l (i + 1) (rowCount l - (i + 1)))) 16
+    cond (badKind (rowAt l i) || unusedByte (rowAt l i) || argumentFirst (rowAt l i) i) badList
+    (cond (eqb (rowAt l i .kind) callRow && badCall t ix (rowAt l i) (arguments l (i + 1) (rowCount l - (i + 1)))) Refusals.badCall
     0)
 
 -- the list's verdict: its length first, then its lowest faulty row
 unfoldable pub listOf : List ℕ → Index → List ℕ → Verdict
-listOf t ix l = cond (ltb maxListBytes (length l) || not (eqb (length l % rowBytes) 0)) (Refused 15 0) (passOver (listFault t ix l) (rowCount l))
+listOf t ix l = cond (ltb maxListBytes (length l) || not (eqb (length l % rowBytes) 0)) (Refused badList 0) (passOver (listFault t ix l) (rowCount l))
 
 -- a call: its procedure, its budget and its arguments
 pub data Call : Type 0 where

@@ -1,10 +1,10 @@
 -- Demand 3: what is safe of an event of a list of calls. `Chain` says which events there are.
-use Prim.Native.Nat.{ℕ, suc, _+_, _-_, _/_, _%_, _<_, _≤_}
+use Prim.Native.Nat.{ℕ, _+_, _-_, _/_, _%_, _<_, _≤_}
 use mathlib.Core.Path.{_≡_}
-use mathlib.Core.Bool.{Bool, true, false}
+use mathlib.Core.Bool.{true, false}
 use mathlib.Core.List.{List, [], _∷_, map}
 use mathlib.Core.Logic.{_≢_, _⊎_}
-use mathlib.Core.Option.{Option, none, some}
+use mathlib.Core.Option.{Option, some}
 use lib.ListN.{length, set, getElem? as nth}
 use Rattle.table.specs.declared.index.Index.{Index}
 use Rattle.table.specs.Format.{instructionKind, maxResults, opWriteRef, opBorrowLoc, opBorrowFld, opBorrowGlobal, opCall, opRet, opPack, opUnpack, opMoveTo, opMoveFrom}
@@ -13,7 +13,7 @@ use Rattle.table.specs.Index.{ownerAt}
 use Rattle.program.specs.Program.{number, isReference, procedureIn, localKind, localCount}
 use Rattle.reach.specs.Reach.{Mem}
 use Rattle.arithmetic.specs.Arithmetic.{pastNumbers}
-use Rattle.rules.specs.Machine.{Value, valueKind, num, obj, toLocal, toField, toRecord, putLocal, findKey, Cell, gone, here, Entry, Frame, frame, State, state, Outcome, next, finished, stopped, stuck, aRecord, target}
+use Rattle.rules.specs.Machine.{Value, valueKind, num, obj, toLocal, toField, toRecord, putLocal, findKey, Cell, here, Entry, Frame, frame, State, state, Outcome, next, finished, stopped, stuck, aRecord, target}
 use Rattle.rules.specs.Step.{pushedOn, startLocals, took, taken, instruction, effectAt, step}
 use Rattle.rules.specs.History.{Base, base, Event, moment, ended}
 use Rattle.rules.specs.Ownership.{inFrames, inRecords, inStore, livesAt}

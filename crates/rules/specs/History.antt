@@ -5,7 +5,7 @@ use lib.ListN.{length, drop}
 use Rattle.table.specs.declared.index.Index.{Index}
 use Rattle.program.specs.Program.{procedureIn, localCount}
 use Rattle.rules.specs.Limits.{budgetSpent}
-use Rattle.rules.specs.Machine.{Value, num, Cell, gone, here, Entry, Frame, frame, State, state, Outcome, next, finished, stopped, stuck}
+use Rattle.rules.specs.Machine.{num, Cell, gone, here, Entry, frame, State, state, Outcome, next, finished, stopped, stuck}
 use Rattle.rules.specs.Step.{startLocals, step}
 use Rattle.rules.specs.Calls.{Call, call}
 

@@ -2,8 +2,7 @@
 use Prim.Native.Nat.{ℕ, zero, suc, _+_}
 use mathlib.Core.List.{List, [], _∷_}
 use mathlib.Core.Option.{Option, none, some}
-use lib.ListN.{getElem? as nth}
-use Rattle.rules.specs.Machine.{Value, num, obj, toLocal, toField, toRecord, Cell, gone, here, Entry, entry, Frame, frame, State, state, lives}
+use Rattle.rules.specs.Machine.{Value, num, obj, toLocal, toField, toRecord, Cell, gone, here, Entry, entry, Frame, frame, lives}
 
 -- 1 where two identities are the same, else 0
 abbrev pub same : ℕ → ℕ → ℕ

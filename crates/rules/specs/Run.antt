@@ -6,9 +6,9 @@ use lib.Dec.{ltb}
 use lib.ListN.{length, drop}
 use Rattle.table.specs.declared.Verdict.{Verdict}
 use Rattle.table.specs.declared.Verdict.the-variants.{Accepted, Refused}
-use Rattle.table.specs.declared.index.Index.{Index}
 use Rattle.table.specs.Index.{indexOf}
 use Rattle.table.specs.Verdicts.{andThen}
+use Rattle.table.specs.Refusals.{smallBuffer}
 use Rattle.judging.specs.Judging.{judgeOf}
 use Rattle.rules.specs.Machine.{Entry}
 use Rattle.rules.specs.Calls.{listOf, callsOf}
@@ -21,7 +21,7 @@ minText = 65536
 
 -- 17: the buffer is too short; else the text's length
 unfoldable pub bufferOf : List ℕ → List ℕ → Verdict
-bufferOf text buffer = cond (ltb (length buffer) minText) (Refused 17 0) (Accepted (length text))
+bufferOf text buffer = cond (ltb (length buffer) minText) (Refused smallBuffer 0) (Accepted (length text))
 
 -- the history of the list l over the table t, from the empty store
 unfoldable pub historyOf : List ℕ → List ℕ → List Event

@@ -1,14 +1,13 @@
 -- One instruction: the twenty opcodes of document 01 and their stops.
-use Prim.Native.Nat.{ℕ, zero, suc, _+_, _-_, _/_, _%_}
+use Prim.Native.Nat.{ℕ, _+_, _-_, _/_, _%_}
 use mathlib.Core.Bool.{Bool, true, false, cond}
-use mathlib.Core.List.{List, [], _∷_, _++_, map}
+use mathlib.Core.List.{List, [], _∷_, _++_}
 use mathlib.Core.Option.{Option, none, some}
 use lib.Dec.{eqb, ltb}
 use lib.ListN.{length, getD, set, replicate, getElem? as nth}
 use Rattle.table.specs.declared.Row.{Row}
 use Rattle.table.specs.declared.index.Index.{Index}
-use Rattle.table.specs.Rows.{rowAt}
-use Rattle.program.specs.Program.{number, isRecord, procedureIn, codeOf, localCount, localKind}
+use Rattle.program.specs.Program.{number, isRecord, procedureIn, localCount, localKind, instructionIn}
 use Rattle.kinds.specs.Effects.{Effect}
 use Rattle.operands.specs.Flow.{effectIn}
 use Rattle.arithmetic.specs.declared.Calculated.{Calculated}
@@ -166,40 +165,85 @@ module _ (b d kind others : ℕ) (vs : List Value) (id p i : ℕ) (ops : List Va
   calculated OutOfRange = stopped outOfRange
   calculated Unknown = stuck
 
+  -- Pop takes an operand; LoadConst pushes the constant
+  abbrev pub pop : Outcome
+  pop = push []
+
+  abbrev pub loadConst : Outcome
+  loadConst = push (num d ∷ [])
+
+  -- MvLoc pushes local b and empties it; CpLoc pushes it; StLoc fills it; BorrowLoc pushes a reference to it
+  abbrev pub mvLoc : Outcome
+  mvLoc = withLocal (nth ls b) λ (v : Value). pushAndSet (v ∷ []) none
+
+  abbrev pub cpLoc : Outcome
+  cpLoc = withLocal (nth ls b) λ (v : Value). push (v ∷ [])
+
+  abbrev pub stLoc : Outcome
+  stLoc = one vs λ (v : Value). fillable (nth ls b) (pushAndSet [] (some v))
+
+  abbrev pub borrowLoc : Outcome
+  borrowLoc = withLocal (nth ls b) λ (v : Value). push (toLocal id b kind ∷ [])
+
+  -- ReadRef pushes the number that a reference leads to; WriteRef takes a number, then a reference, and writes it there
+  abbrev pub readRef : Outcome
+  readRef = one vs λ (r : Value). numberAt (lead r) λ (x : ℕ). push (num x ∷ [])
+
+  abbrev pub writeRef : Outcome
+  writeRef =
+      two vs λ (v r : Value). withNumber v λ (x : ℕ). numberAt (lead r) λ (y : ℕ).
+      next (state (writeFrames (frame id p (i + 1) ops ls ∷ fs) r (num x)) (writeRecords rs r (num x)) st n)
+
+  -- BorrowFld: b is type times 8 plus field
+  abbrev pub borrowFld : Outcome
+  borrowFld =
+      one vs λ (r : Value). recordAt (lead r) λ (a : ℕ) (fields : List Value).
+      fieldReference a (b / 8) (b % 8) (nth fields (b % 8)) λ (w : Value). push (w ∷ [])
+
+  -- Pack makes a record of type b of what it took; Unpack breaks one up and pushes its fields
+  abbrev pub pack : Outcome
+  pack = cond (ltb (liveCount rs) maxRecords) (pushWithRecords (obj (length rs) b ∷ []) (rs ++ (here b vs ∷ []))) (stopped tooManyRecords)
+
+  abbrev pub unpack : Outcome
+  unpack = one vs λ (v : Value). withRecord v λ (a : ℕ). fieldsAt (inCell a (nth rs a)) λ (fields : List Value). pushWithRecords fields (set rs a (gone b))
+
+  -- MoveTo takes a record, then an address, and publishes it; MoveFrom withdraws; BorrowGlobal pushes a reference to the record; Exists 1 or 0
+  abbrev pub moveTo : Outcome
+  moveTo =
+      two vs λ (v w : Value). withRecord v λ (r : ℕ). withNumber w λ (a : ℕ). underKey (findKey st b a)
+      (cond (ltb (length st) maxEntries) (pushWithStore [] (entry b a r ∷ st)) (stopped tooManyEntries)) λ (r′ : ℕ). stopped keyTaken
+
+  abbrev pub moveFrom : Outcome
+  moveFrom = one vs λ (w : Value). withNumber w λ (a : ℕ). underKey (findKey st b a) (stopped noSuchKey) λ (r : ℕ). pushWithStore (obj r b ∷ []) (dropKey st b a)
+
+  abbrev pub borrowGlobal : Outcome
+  borrowGlobal = one vs λ (w : Value). withNumber w λ (a : ℕ). underKey (findKey st b a) (stopped noSuchKey) λ (r : ℕ). push (toRecord r b ∷ [])
+
+  abbrev pub exists : Outcome
+  exists = one vs λ (w : Value). withNumber w λ (a : ℕ). underKey (findKey st b a) (push (num 0 ∷ [])) λ (r : ℕ). push (num 1 ∷ [])
+
+  -- Call begins a frame of procedure b; Ret gives exactly the results, and no record stays behind
+  abbrev pub call : Outcome
+  call = cond (ltb (length fs + 1) maxFrames) (next (state (frame n b 0 [] (startLocals vs others) ∷ frame id p i ops ls ∷ fs) rs st (n + 1))) (stopped tooManyFrames)
+
+  abbrev pub ret : Outcome
+  ret = cond (noneHeld ls) (nothingUnder ops (returned fs vs rs st n)) stuck
+
+  -- Branch; BranchCond: jumps if not 0; Op
+  abbrev pub branch : Outcome
+  branch = goTo b
+
+  abbrev pub branchCond : Outcome
+  branchCond = one vs λ (v : Value). withNumber v λ (x : ℕ). goTo (cond (eqb x 0) (i + 1) b)
+
+  abbrev pub op : Outcome
+  op = two vs λ (v w : Value). withNumber v λ (x : ℕ). withNumber w λ (y : ℕ). calculated (calculation b x y)
+
   -- by opcode
   unfoldable pub actions : List Outcome
   actions =
-      -- Pop; LoadConst
-      push []
-      ∷ push (num d ∷ [])
-      -- MvLoc; CpLoc; StLoc; BorrowLoc
-      ∷ withLocal (nth ls b) (λ (v : Value). pushAndSet (v ∷ []) none)
-      ∷ withLocal (nth ls b) (λ (v : Value). push (v ∷ []))
-      ∷ one vs (λ (v : Value). fillable (nth ls b) (pushAndSet [] (some v)))
-      ∷ withLocal (nth ls b) (λ (v : Value). push (toLocal id b kind ∷ []))
-      -- ReadRef; WriteRef: number, then reference
-      ∷ one vs (λ (r : Value). numberAt (lead r) λ (x : ℕ). push (num x ∷ []))
-      ∷ two vs (λ (v r : Value). withNumber v λ (x : ℕ). numberAt (lead r) λ (y : ℕ).
-      next (state (writeFrames (frame id p (i + 1) ops ls ∷ fs) r (num x)) (writeRecords rs r (num x)) st n))
-      -- BorrowFld: b is type times 8 plus field
-      ∷ one vs (λ (r : Value). recordAt (lead r) λ (a : ℕ) (fields : List Value). fieldReference a (b / 8) (b % 8) (nth fields (b % 8)) λ (w : Value). push (w ∷ []))
-      -- Pack; Unpack
-      ∷ cond (ltb (liveCount rs) maxRecords) (pushWithRecords (obj (length rs) b ∷ []) (rs ++ (here b vs ∷ []))) (stopped tooManyRecords)
-      ∷ one vs (λ (v : Value). withRecord v λ (a : ℕ). fieldsAt (inCell a (nth rs a)) λ (fields : List Value). pushWithRecords fields (set rs a (gone b)))
-      -- MoveTo: record, then address; MoveFrom; BorrowGlobal; Exists
-      ∷ two vs (λ (v w : Value). withRecord v λ (r : ℕ). withNumber w λ (a : ℕ). underKey (findKey st b a)
-      (cond (ltb (length st) maxEntries) (pushWithStore [] (entry b a r ∷ st)) (stopped tooManyEntries)) λ (r′ : ℕ). stopped keyTaken)
-      ∷ one vs (λ (w : Value). withNumber w λ (a : ℕ). underKey (findKey st b a) (stopped noSuchKey) λ (r : ℕ). pushWithStore (obj r b ∷ []) (dropKey st b a))
-      ∷ one vs (λ (w : Value). withNumber w λ (a : ℕ). underKey (findKey st b a) (stopped noSuchKey) λ (r : ℕ). push (toRecord r b ∷ []))
-      ∷ one vs (λ (w : Value). withNumber w λ (a : ℕ). underKey (findKey st b a) (push (num 0 ∷ [])) λ (r : ℕ). push (num 1 ∷ []))
-      -- Call; Ret: exactly the results, and no record stays behind
-      ∷ cond (ltb (length fs + 1) maxFrames) (next (state (frame n b 0 [] (startLocals vs others) ∷ frame id p i ops ls ∷ fs) rs st (n + 1))) (stopped tooManyFrames)
-      ∷ cond (noneHeld ls) (nothingUnder ops (returned fs vs rs st n)) stuck
-      -- Branch; BranchCond: jumps if not 0; Op
-      ∷ goTo b
-      ∷ one vs (λ (v : Value). withNumber v λ (x : ℕ). goTo (cond (eqb x 0) (i + 1) b))
-      ∷ two vs (λ (v w : Value). withNumber v λ (x : ℕ). withNumber w λ (y : ℕ). calculated (calculation b x y))
-      ∷ []
+      pop ∷ loadConst ∷ mvLoc ∷ cpLoc ∷ stLoc ∷ borrowLoc ∷ readRef ∷ writeRef ∷ borrowFld ∷ pack
+      ∷ unpack ∷ moveTo ∷ moveFrom ∷ borrowGlobal ∷ exists ∷ call ∷ ret ∷ branch ∷ branchCond ∷ op ∷ []
 
 -- the kind of the top operand, which Pop takes
 abbrev pub topKind : List Value → ℕ
@@ -210,7 +254,7 @@ topKind (v ∷ ops) = valueKind v
 module _ (t : List ℕ) (ix : Index) where
   -- instruction i of procedure p: its row, and what it takes and pushes
   unfoldable pub instruction : ℕ → ℕ → Row
-  instruction p i = rowAt (codeOf t (procedureIn ix p)) i
+  instruction p i = instructionIn t ix p i
 
   unfoldable pub effectAt : ℕ → ℕ → List Value → Effect
   effectAt p i ops = effectIn t ix (procedureIn ix p) (topKind ops) i

@@ -1,12 +1,12 @@
 -- The text of a history (document 01, "Running"), as bytes.
 use Prim.Native.Nat.{ℕ, zero, suc, _+_, _/_, _%_}
-use mathlib.Core.Bool.{Bool, cond}
+use mathlib.Core.Bool.{cond}
 use mathlib.Core.List.{List, [], _∷_, _++_}
 use mathlib.Core.Option.{Option, none, some}
 use lib.Dec.{ltb}
 use lib.ListN.{getElem? as nth}
 use Rattle.table.specs.Format.{maxTypes}
-use Rattle.rules.specs.Machine.{Value, num, obj, toLocal, toField, toRecord, Cell, gone, here, Entry, entry, State, Outcome, next, finished, stopped, stuck}
+use Rattle.rules.specs.Machine.{Value, num, obj, toLocal, toField, toRecord, Cell, gone, here, Entry, entry, Outcome, next, finished, stopped, stuck}
 use Rattle.rules.specs.Ascii.{ascii}
 use Rattle.rules.specs.History.{Base, base, Event, moment, ended, nothing, lastBase}
 

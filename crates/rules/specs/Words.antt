@@ -1,18 +1,19 @@
 -- The words of demand 3 (document 01), said of the rows of a table, and of records, entries and frames.
 use Prim.Native.Nat.{ℕ, zero, suc, _+_}
 use mathlib.Core.Path.{_≡_}
-use mathlib.Core.Bool.{Bool, true, false, cond, _&&_}
-use mathlib.Core.List.{List, [], _∷_}
+use mathlib.Core.Bool.{Bool, true, cond, _&&_}
+use mathlib.Core.List.{List, []}
 use mathlib.Core.Logic.{_⊎_}
-use mathlib.Core.Option.{Option, none, some}
+use mathlib.Core.Option.{Option, some}
 use lib.Dec.{eqb}
 use lib.ListN.{getElem? as nth}
 use Rattle.laws.specs.Lists.{every, count, nth as nthHit}
 use Rattle.table.specs.declared.index.ProcedureEntry.{ProcedureEntry}
 use Rattle.table.specs.Format.{moduleKind, typeKind, fieldKind, procedureKind}
 use Rattle.table.specs.Rows.{rowCount, rowAt, isKind}
-use Rattle.table.specs.Index.{ownerAt, typeAt, procedureAt, codeStart}
+use Rattle.table.specs.Index.{ownerAt, typeAt, procedureAt}
 use Rattle.table.specs.Procedures.{procedureRow}
+use Rattle.table.specs.Flags.{isGuarded}
 use Rattle.program.specs.Program.{fieldKinds}
 use Rattle.reach.specs.Reach.{Mem}
 use Rattle.rules.specs.Machine.{Value, num, toField, Cell, gone, here, Entry, entry, Frame, frame}
@@ -48,7 +49,7 @@ guest t p = inGuest t (procedureRow t p)
 
 -- whether field j of type y is guarded: the rows from below the type's down to the field's are fields, and its C is 1
 unfoldable pub guardedField : List ℕ → ℕ → ℕ → Bool
-guardedField t y j = every (λ (k : ℕ). isKind t fieldKind (typeRow t y + 1 + k)) (suc j) && eqb (rowAt t (typeRow t y + 1 + j) .c) 1
+guardedField t y j = every (λ (k : ℕ). isKind t fieldKind (typeRow t y + 1 + k)) (suc j) && isGuarded (rowAt t (typeRow t y + 1 + j))
 
 -- the kinds of the fields of type y; the rows of procedure p; the row of its instruction i
 abbrev pub kindsIn : List ℕ → ℕ → List ℕ

@@ -38,15 +38,3 @@ module _ (s m y k : ℕ) (h : Small s m y k) where
   pub whole-back : valueOf 5 (packed s m y k) ≡ Refer (Whole s m y)
   unfolding valueOf values
   whole-back = rw (first-back, second-back, third-back)
-
--- a number that is none of the first n is at least n
-abbrev pub Not : ℕ → ℕ → Type 0
-Not x zero = Unit {0}
-Not x (suc n) = Not x n × (x ≡ n → ⊥)
-
-pub above : (n x : ℕ) → Not x n → n ≤ x
-above zero x h = omega arith
-above (suc n) x h = up n x (above n x (h .0)) (h .1)
-  where
-    up : (n x : ℕ) → n ≤ x → (x ≡ n → ⊥) → suc n ≤ x
-    up n x a b = omega arith

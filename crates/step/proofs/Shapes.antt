@@ -8,6 +8,7 @@ use native.Mathlib.Omega.{arith}
 use borrow.Author.Tests.{eqb-true, lt-ltb, le-leb, lt-leb}
 use lib.Dec.{eqb, ltb, leb}
 use lib.ListN.{length, getD}
+use Rattle.laws.proofs.Cases.{_▸_, Each, each}
 use Rattle.arithmetic.specs.declared.Calculated.{Calculated}
 use Rattle.arithmetic.specs.declared.Calculated.the-variants.{Value, OutOfRange, Unknown}
 use Rattle.rules.specs.Limits.{outOfRange, staleReference, keyTaken, noSuchKey, tooManyFrames, tooManyRecords, tooManyEntries}
@@ -42,26 +43,6 @@ pub data Shape (cs : List Operand) (s : State) : Bool → Turning → Type 0 whe
   finishes : s .depth ≡ 0 → Shape cs s true (ends cs s done)
   stays : {r : Bool} (k : ℕ) → ltb done k ≡ true → Shape cs s r (ends cs s k)
   goes : {r : Bool} {s′ : State} {cs′ : List Operand} → Bounded s s′ → Shape cs s r (after s′ cs′)
-
--- what holds of each member, by its place, holds of the one that is found
--- a fact and the facts after it
-infixr 5 _▸_
-abbrev pub _▸_ : {A B : Type 0} → A → B → A × B
-a ▸ b = (a, b)
-
-abbrev pub Each : {A : Type 0} → (ℕ → A → Type 0) → List A → Type 0
-Each P [] = Unit
-Each P (x ∷ xs) = P 0 x × Each (λ (i : ℕ). P (suc i)) xs
-
-each : {A : Type 0} (P : ℕ → A → Type 0) (xs : List A) (z : A) → Each P xs → ((i : ℕ) → P i z) → (i : ℕ) → P i (getD xs i z)
-each P [] z a h i = h i
-each P (x ∷ xs) z a h zero = a .0
-each P (x ∷ xs) z a h (suc i) = each (λ (j : ℕ). P (suc j)) xs z (a .1) (λ j. h (suc j)) i
-
-pub each-listed : {A : Type 0} (P : ℕ → A → Type 0) (xs : List A) (z : A) → Each P xs → (i : ℕ) → i < length xs → P i (getD xs i z)
-each-listed P [] z a i h = absurd (omega arith)
-each-listed P (x ∷ xs) z a zero h = a .0
-each-listed P (x ∷ xs) z a (suc i) h = each-listed (λ (j : ℕ). P (suc j)) xs z (a .1) i (omega arith)
 
 module _ (cs : List Operand) (s : State) where
   -- all of them are as they were

@@ -44,6 +44,6 @@ pub fn step(
         format::BRANCH => s.go_to(b),
         format::BRANCH_COND => frame::control::branch_cond(s, cells, b),
         format::OP => frame::operations::op(s, cells, b),
-        20..=255 => s.stopped(frame::BROKEN),
+        format::PAST_OPCODES..=255 => s.stopped(frame::BROKEN),
     }
 }

@@ -1,14 +1,11 @@
 // How many operands each instruction takes and pushes, and which of those that it pushes are marked of themselves.
 ghost use mathlib.Core.Path.{_≡_};
-ghost use mathlib.Core.Bool.{false};
-ghost use Prim.Native.Nat.{ℕ, _+_, _-_, _*_, _<_};
-ghost use lib.ListN.{length, getD};
-ghost use lib.Dec.{eqb};
-ghost use mathlib.Core.Bool.{cond};
-ghost use Rattle.table.specs.Format.{opCall};
+ghost use Prim.Native.Nat.{_+_, _-_, _<_};
+ghost use lib.ListN.{length};
 ghost use Rattle.program.specs.Program.{number, parametersEnd};
 ghost use Rattle.kinds.specs.Effects.{effectOf};
-ghost use Rattle.steps.specs.Steps.{borrowsGuarded, stepOf, viewStep, givenBy};
+ghost use Rattle.steps.specs.Steps.{Marking, stepOf};
+ghost use Rattle.steps.specs.Shapes.{viewStep, Makes};
 use table::Row;
 use table::format;
 use table::index::ProcedureEntry;
@@ -20,13 +17,15 @@ pub struct Counts {
     pub gives: u16,
 }
 
-// An instruction: opcode and operand, how many operands it takes and pushes, and whether each of the first four that it pushes is marked of itself.
+// An instruction: opcode and operand, how many operands it takes and pushes, and which of the first eight that it pushes are marked of themselves,
+// and whether it carries marks.
 pub struct Shape {
     pub opcode: u8,
     pub operand: u16,
     pub takes: u16,
     pub gives: u16,
-    pub fresh: [bool; 4],
+    pub fresh: [bool; 8],
+    pub carries: bool,
 }
 
 impl Shape {
@@ -35,7 +34,8 @@ impl Shape {
         operand: 0,
         takes: 0,
         gives: 0,
-        fresh: [false; 4],
+        fresh: [false; 8],
+        carries: false,
     };
 }
 
@@ -116,66 +116,29 @@ pub fn counts_of(
         format::BRANCH => Counts { takes: 0, gives: 0 },
         format::BRANCH_COND => Counts { takes: 1, gives: 0 },
         format::OP => Counts { takes: 2, gives: 1 },
-        20..=255 => Counts { takes: 0, gives: 0 },
+        format::PAST_OPCODES..=255 => Counts { takes: 0, gives: 0 },
     }
 }
 
-// Whether BorrowFld borrows a guarded field.
-fn borrows_guarded(table: &[u8], row: Row, named: TypeEntry) -> bool
-    ensures { λ r. ⌜ r ≡ borrowsGuarded (now (table .entry)) named row ⌝ }
-{
-    if row.a != format::BORROW_FLD {
-        return false;
-    }
-    table::row_at(table, (named.row as usize) + 1 + ((row.b % 8) as usize)).c == 1
-}
-
-// Whether result r of procedure q is given as marked.
-fn result_given(results: &[bool], q: u16, r: usize) -> bool
-    requires { ⌜ r < 4 ⌝ }
-    ensures { λ x. ⌜ x ≡ getD (now (results .entry)) (4 * q + r) false ⌝ }
-{
-    let at = 4 * (q as usize) + r;
-    if at < results.len() {
-        results[at]
-    } else {
-        false
-    }
-}
-
-// Which of the first four operands that an instruction pushes are marked of themselves.
-fn fresh_of(table: &[u8], results: &[bool], row: Row, named: TypeEntry) -> [bool; 4]
-    ensures { λ x. ⌜ ((r : ℕ) → r < 4 → getD x r false ≡ cond (eqb (row .a) opCall) (getD (now (results .entry)) (4 * row .b + r) false) (borrowsGuarded (now (table .entry)) named row)) ⌝ }
-{
-    if row.a == format::CALL {
-        return [
-            result_given(results, row.b, 0),
-            result_given(results, row.b, 1),
-            result_given(results, row.b, 2),
-            result_given(results, row.b, 3),
-        ];
-    }
-    [borrows_guarded(table, row, named); 4]
-}
-
-// What a walk sees of an instruction. `results` has which procedure's results are given as marked.
+// What a walk sees of an instruction, whose pushed operands are marked of themselves as `fresh` says, the first eight, and which carries marks or not.
 pub fn shape_of(
     table: &[u8],
-    results: &[bool],
     row: Row,
     own: ProcedureEntry,
     named: TypeEntry,
     callee: ProcedureEntry,
+    fresh: [bool; 8],
+    carries: bool,
 ) -> Shape
-    ensures { λ r. ⌜ viewStep r ≡ stepOf (now (table .entry)) (givenBy (λ (l : ℕ). false) (now (results .entry))) own named callee row ⌝ }
+    ensures { λ r. ⌜ ((m : Marking) → Makes m (now (table .entry)) own named callee row fresh carries → viewStep r ≡ stepOf (now (table .entry)) m own named callee row) ⌝ }
 {
     let counts = counts_of(table, row, own, named, callee);
-    let fresh = fresh_of(table, results, row, named);
     Shape {
         opcode: row.a,
         operand: row.b,
         takes: counts.takes,
         gives: counts.gives,
         fresh,
+        carries,
     }
 }

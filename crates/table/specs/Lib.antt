@@ -3,3 +3,5 @@ pub mod Rows
 pub mod Verdicts
 pub mod Index
 pub mod Procedures
+pub mod Flags
+pub mod Refusals

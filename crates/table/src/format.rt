@@ -27,6 +27,9 @@ pub const NUMBER_REFERENCE: u8 = 2;
 
 pub const RECORD_REFERENCE: u8 = 3;
 
+// The first number that is no sort.
+pub const PAST_SORTS: u8 = 4;
+
 // Opcodes.
 pub const POP: u8 = 0;
 
@@ -67,6 +70,11 @@ pub const BRANCH: u8 = 17;
 pub const BRANCH_COND: u8 = 18;
 
 pub const OP: u8 = 19;
+
+// The first number that is no opcode, and the first that is no operation of Op.
+pub const PAST_OPCODES: u8 = 20;
+
+pub const PAST_OPS: u16 = 4;
 
 // Limits: at most so many.
 pub const MAX_ROWS: usize = 2048;

@@ -9,6 +9,7 @@ ghost use Rattle.table.specs.Verdicts.{numberOf, valueOf};
 pub mod format;
 pub mod index;
 pub mod procedures;
+pub mod refusals;
 
 // One row: kind, A, B, C and D.
 pub struct Row {

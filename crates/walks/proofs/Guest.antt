@@ -14,11 +14,11 @@ use Rattle.laws.proofs.Lists.{count-zero, count-yes, count-no, entries-at, entr
 use Rattle.table.specs.declared.Row.{Row}
 use Rattle.table.specs.declared.Verdict.the-variants.{Accepted}
 use Rattle.table.specs.declared.index.TypeEntry.{TypeEntry}
-use Rattle.table.specs.Format.{moduleKind, typeKind, fieldKind, opBorrowFld, opCall}
+use Rattle.table.specs.Format.{moduleKind, typeKind, fieldKind, opBorrowFld}
 use Rattle.table.specs.Rows.{rowCount, rowAt, blank, kindAt, isKind}
 use Rattle.table.specs.Index.{noType, indexOf, indexedRows, ownerAt, typeAt}
 use Rattle.table.proofs.Laws.{row-outside, not-kind, type-within, type-fields}
-use Rattle.program.specs.Program.{typeIn, codeOf, fieldCount, fieldRow}
+use Rattle.program.specs.Program.{typeIn, codeOf, fieldCount, fieldRow, instructionIn}
 use Rattle.program.proofs.Laws.{nth-below}
 use Rattle.program.proofs.Passes.{unfaulted}
 use Rattle.rows.specs.declared.Above.{Above}
@@ -26,8 +26,9 @@ use Rattle.rows.specs.Rows.{rowsOf, faultAt, rowFault, misplaced, tooMany, unus
 use Rattle.names.specs.Names.{namesOf, names}
 use Rattle.operands.specs.Operands.{namedType}
 use Rattle.operands.specs.Flow.{Flow}
-use Rattle.steps.specs.Steps.{nothingGiven, borrowsGuarded, freshMarks, stepOf, stepAt}
-use Rattle.leaks.specs.Leaks.{inTrusted}
+use Rattle.steps.specs.Steps.{stepOf, stepAt}
+use Rattle.walks.specs.Checked.{stepIn}
+use Rattle.leaks.specs.Leaks.{borrowsGuarded, inTrusted}
 use Rattle.judging.proofs.Sizes.{rows-fine, nth-hit}
 use Rattle.walks.proofs.Rows.{count-stretch, own, code-named}
 
@@ -187,16 +188,6 @@ all-false f n h r = go (decLt r n)
     go (yes l) = getD-tabulate f false n r l ∙ h r
     go (no l) = List·getD-eq-default (tabulate f n) false {n = r} (rw length-tabulate (omega arith))
 
--- false either way
-cond-false : (b x : Bool) → x ≡ false → cond b false x ≡ false
-cond-false true x e = refl
-cond-false false x e = e
-
--- what borrows no guarded field makes no mark
-fresh-false : (t : List ℕ) (named : TypeEntry) (row : Row) (n : ℕ) → borrowsGuarded t named row ≡ false → (r : ℕ) → getD (freshMarks t nothingGiven named row n) r false ≡ false
-unfolding freshMarks
-fresh-false t named row n e = all-false _ n (λ r. cond-false (eqb (row .a) opCall) _ e)
-
 -- two tests that both hold
 both-tests : (a b c d : ℕ) → (eqb a b && eqb c d) ≡ true → (a ≡ b) × (c ≡ d)
 both-tests a b c d e = go (eqb a b) refl e
@@ -220,28 +211,28 @@ module _ (t : List ℕ) (q : ℕ) (there : q < indexOf t .procedures) (few : q <
   is-guest = guest
 
   -- BorrowFld borrows no guarded field
-  unguarded : (i : ℕ) → i < rowCount (codeOf t (own t q)) → rowAt (codeOf t (own t q)) i .a ≡ opBorrowFld
-      → rowAt t (fieldRow (namedType (indexOf t) (rowAt (codeOf t (own t q)) i)) (rowAt (codeOf t (own t q)) i .b % 8)) .c ≡ 1 → ⊥
+  unguarded : (i : ℕ) → i < rowCount (codeOf t (own t q)) → instructionIn t (indexOf t) q i .a ≡ opBorrowFld
+      → rowAt t (fieldRow (namedType (indexOf t) (instructionIn t (indexOf t) q i)) (instructionIn t (indexOf t) q i .b % 8)) .c ≡ 1 → ⊥
   unfolding namedType names
   unguarded i h e g =
-      let b = rowAt (codeOf t (own t q)) i .b in
+      let b = instructionIn t (indexOf t) q i .b in
       let x : (b / 8 < indexOf t .types) × (b % 8 < fieldCount (typeIn (indexOf t) (b / 8))) = rw e at (code-named t q there few n byNames i h) in
       let o : typeIn (indexOf t) (b / 8) .owner ≡ own t q .owner = rw e at (flow i h .ownType (omega arith) (omega arith)) in
       let tr = guarded-trusted t (rows-fine t n byRows) (b / 8) (b % 8) (x .0) (x .1) (rw e at g) in
       eqb-false _ _ is-guest (rw o at tr)
 
   -- no instruction borrows a guarded field
-  borrows-none : (i : ℕ) → borrowsGuarded t (namedType (indexOf t) (rowAt (codeOf t (own t q)) i)) (rowAt (codeOf t (own t q)) i) ≡ false
-  borrows-none i = go (borrowsGuarded t (namedType (indexOf t) (rowAt (codeOf t (own t q)) i)) (rowAt (codeOf t (own t q)) i)) refl (decLt i (rowCount (codeOf t (own t q))))
+  borrows-none : (i : ℕ) → borrowsGuarded t (namedType (indexOf t) (instructionIn t (indexOf t) q i)) (instructionIn t (indexOf t) q i) ≡ false
+  borrows-none i = go (borrowsGuarded t (namedType (indexOf t) (instructionIn t (indexOf t) q i)) (instructionIn t (indexOf t) q i)) refl (decLt i (rowCount (codeOf t (own t q))))
     where
-      go : (b : Bool) → borrowsGuarded t (namedType (indexOf t) (rowAt (codeOf t (own t q)) i)) (rowAt (codeOf t (own t q)) i) ≡ b → Dec (i < rowCount (codeOf t (own t q))) → b ≡ false
-      go true e (yes h) = let g = guards t _ (rowAt (codeOf t (own t q)) i) e in absurd (unguarded i h (g .0) (g .1))
+      go : (b : Bool) → borrowsGuarded t (namedType (indexOf t) (instructionIn t (indexOf t) q i)) (instructionIn t (indexOf t) q i) ≡ b → Dec (i < rowCount (codeOf t (own t q))) → b ≡ false
+      go true e (yes h) = let g = guards t _ (instructionIn t (indexOf t) q i) e in absurd (unguarded i h (g .0) (g .1))
       go true e (no h) =
-          let z : blank .a ≡ opBorrowFld = rw (row-outside (codeOf t (own t q)) i (omega arith)) at (guards t _ (rowAt (codeOf t (own t q)) i) e .0) in
+          let z : blank .a ≡ opBorrowFld = rw (row-outside (codeOf t (own t q)) i (omega arith)) at (guards t _ (instructionIn t (indexOf t) q i) e .0) in
           absurd (omega arith)
       go false e d = refl
 
   -- no instruction makes a mark
-  pub no-fresh : (i r : ℕ) → getD (stepAt t (indexOf t) nothingGiven (own t q) i .fresh) r false ≡ false
+  pub no-fresh : (i r : ℕ) → getD (stepIn t q i .fresh) r false ≡ false
   unfolding stepAt stepOf
-  no-fresh i r = fresh-false t _ (rowAt (codeOf t (own t q)) i) _ (borrows-none i) r
+  no-fresh i r = all-false _ _ (λ r. borrows-none i) r

@@ -24,18 +24,18 @@ lowest-one E {number} {row} {number′} {row′} a b =
     (a .first number′ row′ (b .earned))
 
 -- Faults that are, at every instruction of a table, the lowest number that there is a cause for.
-pub record Tells (Cause : List ℕ → ProcedureEntry → ℕ → ℕ → Type 0) (fault : ProcedureEntry → ℕ → ℕ) (t : List ℕ) : Type 0 where
-  pub shown : (q i : ℕ) → q < indexOf t .procedures → i < rowCount (codeOf t (own t q)) → (fault (own t q) i ≡ 0 → ⊥) → Cause t (own t q) i (fault (own t q) i)
-  pub found : (q i number : ℕ) → q < indexOf t .procedures → i < rowCount (codeOf t (own t q)) → Cause t (own t q) i number → (fault (own t q) i ≡ 0 → ⊥) × (fault (own t q) i ≤ number)
+pub record Tells (Cause : List ℕ → ℕ → ℕ → ℕ → Type 0) (fault : ℕ → ProcedureEntry → ℕ → ℕ) (t : List ℕ) : Type 0 where
+  pub shown : (q i : ℕ) → q < indexOf t .procedures → i < rowCount (codeOf t (own t q)) → (fault q (own t q) i ≡ 0 → ⊥) → Cause t q i (fault q (own t q) i)
+  pub found : (q i number : ℕ) → q < indexOf t .procedures → i < rowCount (codeOf t (own t q)) → Cause t q i number → (fault q (own t q) i ≡ 0 → ⊥) × (fault q (own t q) i ≤ number)
 
 -- A pass over procedures that looks for such faults.
-module _ (Cause : List ℕ → ProcedureEntry → ℕ → ℕ → Type 0) (fault : ProcedureEntry → ℕ → ℕ) (t : List ℕ) (tells : Tells Cause fault t) where
+module _ (Cause : List ℕ → ℕ → ℕ → ℕ → Type 0) (fault : ℕ → ProcedureEntry → ℕ → ℕ) (t : List ℕ) (tells : Tells Cause fault t) where
   -- a row that earns a number stands below the first faulty one, or is that one and the number no lower
   below-or-there : {number row : ℕ} → First fault t (indexOf t) number row → (number′ row′ : ℕ) → Earns Cause t number′ row′ → (row < row′) ⊎ ((row ≡ row′) × (number ≤ number′))
   below-or-there {number} {row} f number′ row′ (q, i, there, inside, row-is, cause) =
       go (decLt q (f .procedure)) (decLt (f .procedure) q) (decLt i (f .instruction)) (decLt (f .instruction) i) (tells .found q i number′ there inside cause)
     where
-      go : Dec (q < f .procedure) → Dec (f .procedure < q) → Dec (i < f .instruction) → Dec (f .instruction < i) → (fault (own t q) i ≡ 0 → ⊥) × (fault (own t q) i ≤ number′)
+      go : Dec (q < f .procedure) → Dec (f .procedure < q) → Dec (i < f .instruction) → Dec (f .instruction < i) → (fault q (own t q) i ≡ 0 → ⊥) × (fault q (own t q) i ≤ number′)
           → (row < row′) ⊎ ((row ≡ row′) × (number ≤ number′))
       go (yes b) c d e z = absurd (z .0 (f .above q b i inside))
       go (no b) (yes c) d e z = inl (rw (f .here .row-is, row-is) (code-rises t (f .procedure) q (f .instruction) i c there (f .here .inside) inside))
@@ -61,9 +61,9 @@ module _ (Cause : List ℕ → ProcedureEntry → ℕ → ℕ → Type 0) (fault
   pass-none {n} e number row (q, i, there, inside, row-is, cause) = tells .found q i number there inside cause .0 (pass-fine fault (indexOf t) t n e q there (entries-long t q (inside-few t q i inside)) i inside)
 
   pub none-pass : ((number row : ℕ) → Earns Cause t number row → ⊥) → codePass fault (indexOf t) t ≡ Accepted (rowCount t)
-  none-pass none = pass-clean fault (indexOf t) t (λ q i there l inside. go q i there inside (ℕ-discrete (fault (own t q) i) 0))
+  none-pass none = pass-clean fault (indexOf t) t (λ q i there l inside. go q i there inside (ℕ-discrete (fault q (own t q) i) 0))
     where
-      go : (q i : ℕ) → q < indexOf t .procedures → i < rowCount (codeOf t (own t q)) → Dec (fault (own t q) i ≡ 0) → fault (own t q) i ≡ 0
+      go : (q i : ℕ) → q < indexOf t .procedures → i < rowCount (codeOf t (own t q)) → Dec (fault q (own t q) i ≡ 0) → fault q (own t q) i ≡ 0
       go q i there inside (yes z) = z
       go q i there inside (no z) = absurd (none _ _ (q, i, there, inside, refl, tells .shown q i there inside z))
 

@@ -9,7 +9,6 @@ use Rattle.table.specs.declared.Verdict.the-variants.{Accepted, Refused}
 use Rattle.table.specs.Rows.{rowCount}
 use Rattle.table.specs.Index.{indexOf}
 use Rattle.locals.specs.Locals.{localFault, localsOf}
-use Rattle.steps.specs.Steps.{nothingGiven}
 use Rattle.leaks.specs.Leaks.{leakFault, leaksOf}
 use Rattle.judging.specs.Judging.{judgeOf, UpToOperands}
 use Rattle.judging.proofs.Laws.{refused-here}
@@ -21,29 +20,29 @@ use Rattle.walks.proofs.Causes.{local-shown, local-found, leak-shown, l
 
 -- A table that the passes before locals accept.
 module _ (t : List ℕ) (a : UpToOperands t) where
-  local-tells : Tells LocalCause (localFault t) t
+  local-tells : Tells LocalCause (λ (q : ℕ). localFault t) t
   local-tells = record { shown = λ q i there inside. local-shown t a q i there inside; found = λ q i number there inside. local-found t a q i there inside number }
 
-  leak-tells : Tells LeakCause (leakFault t (indexOf t) nothingGiven) t
+  leak-tells : Tells LeakCause (leakFault t (indexOf t)) t
   leak-tells = record { shown = λ q i there inside. leak-shown t a q i there inside; found = λ q i number there inside. leak-found t a q i there inside number }
 
   -- 11 and 12: what the locals pass refuses, and what it accepts
   pub locals-refused : (number row : ℕ) → (localsOf t ≡ Refused number row) ↔ Lowest (Earns LocalCause t) number row
   unfolding localsOf
-  locals-refused number row = (pass-lowest LocalCause (localFault t) t local-tells, lowest-pass LocalCause (localFault t) t local-tells)
+  locals-refused number row = (pass-lowest LocalCause (λ (q : ℕ). localFault t) t local-tells, lowest-pass LocalCause (λ (q : ℕ). localFault t) t local-tells)
 
   pub locals-accepted : (localsOf t ≡ Accepted (rowCount t)) ↔ ((number row : ℕ) → Earns LocalCause t number row → ⊥)
   unfolding localsOf
-  locals-accepted = (pass-none LocalCause (localFault t) t local-tells, none-pass LocalCause (localFault t) t local-tells)
+  locals-accepted = (pass-none LocalCause (λ (q : ℕ). localFault t) t local-tells, none-pass LocalCause (λ (q : ℕ). localFault t) t local-tells)
 
   -- 13 and 14: the same of the leaks pass
   pub leaks-refused : (number row : ℕ) → (leaksOf t ≡ Refused number row) ↔ Lowest (Earns LeakCause t) number row
   unfolding leaksOf
-  leaks-refused number row = (pass-lowest LeakCause (leakFault t (indexOf t) nothingGiven) t leak-tells, lowest-pass LeakCause (leakFault t (indexOf t) nothingGiven) t leak-tells)
+  leaks-refused number row = (pass-lowest LeakCause (leakFault t (indexOf t)) t leak-tells, lowest-pass LeakCause (leakFault t (indexOf t)) t leak-tells)
 
   pub leaks-accepted : (leaksOf t ≡ Accepted (rowCount t)) ↔ ((number row : ℕ) → Earns LeakCause t number row → ⊥)
   unfolding leaksOf
-  leaks-accepted = (pass-none LeakCause (leakFault t (indexOf t) nothingGiven) t leak-tells, none-pass LeakCause (leakFault t (indexOf t) nothingGiven) t leak-tells)
+  leaks-accepted = (pass-none LeakCause (leakFault t (indexOf t)) t leak-tells, none-pass LeakCause (leakFault t (indexOf t)) t leak-tells)
 
 -- one of two numbers that follow each other
 one-of : (k number : ℕ) → (k ≤ number) × (number ≤ k + 1) → (number ≡ k) ⊎ (number ≡ k + 1)

@@ -18,7 +18,7 @@ use Rattle.table.specs.Rows.{rowCount, rowAt, rowFrom, kindAt, isKind}
 use Rattle.table.specs.Index.{noProcedure, indexOf, indexedRows, procedureAt, resultsStart, codeStart, codeEnd}
 use Rattle.table.specs.Procedures.{partOf, rowsBetween}
 use Rattle.table.proofs.Laws.{row-inside, row-outside, not-kind, part-inside, procedure-parts, procedure-locals, procedure-results, procedure-code}
-use Rattle.program.specs.Program.{procedureIn, codeOf, localCount}
+use Rattle.program.specs.Program.{procedureIn, codeOf, localCount, instructionIn}
 use Rattle.program.proofs.Laws.{procedure-there}
 use Rattle.names.specs.Names.{nothing, localNumber, names, namesOf}
 use Rattle.names.specs.Exist.{Exists, Good}
@@ -167,7 +167,7 @@ module _ (t : List ℕ) (q : ℕ) (there : q < indexOf t .procedures) (few : q <
   code-count = rw entry-is (part-count t (codeStart t rowOf) (codeEnd t rowOf) (omega (arith, parts)) (omega (arith, parts)))
 
   -- each is a row of the table
-  pub code-row : (i : ℕ) → i < rowCount (codeOf t (own t q)) → rowAt (codeOf t (own t q)) i ≡ rowAt t (codeStart t rowOf + i)
+  pub code-row : (i : ℕ) → i < rowCount (codeOf t (own t q)) → instructionIn t (indexOf t) q i ≡ rowAt t (codeStart t rowOf + i)
   unfolding codeOf procedureAt
   code-row i h =
       let l : i < codeEnd t rowOf - codeStart t rowOf = omega (arith, code-count) in
@@ -194,7 +194,7 @@ module _ (t : List ℕ) (q : ℕ) (there : q < indexOf t .procedures) (few : q <
 
     -- what an instruction names exists
     pub code-named : (i : ℕ) → i < rowCount (codeOf t (own t q))
-        → Exists (indexOf t) (own t q) (rowAt (codeOf t (own t q)) i .b) (getD names (rowAt (codeOf t (own t q)) i .a) nothing)
+        → Exists (indexOf t) (own t q) (instructionIn t (indexOf t) q i .b) (getD names (instructionIn t (indexOf t) q i .a) nothing)
     code-named i h =
         let j = codeStart t rowOf + i in
         let hi : j < codeEnd t rowOf = omega (arith, code-count) in
@@ -203,11 +203,11 @@ module _ (t : List ℕ) (q : ℕ) (there : q < indexOf t .procedures) (few : q <
         rw code-row (rw (own-number j lo hi) at g)
 
     -- a local that an instruction names is there
-    pub local-there : (i : ℕ) → getD names (rowAt (codeOf t (own t q)) i .a) nothing ≡ localNumber → rowAt (codeOf t (own t q)) i .b < localCount (own t q)
+    pub local-there : (i : ℕ) → getD names (instructionIn t (indexOf t) q i .a) nothing ≡ localNumber → instructionIn t (indexOf t) q i .b < localCount (own t q)
     unfolding names
     local-there i e = go (decLt i (rowCount (codeOf t (own t q))))
       where
-        go : Dec (i < rowCount (codeOf t (own t q))) → rowAt (codeOf t (own t q)) i .b < localCount (own t q)
+        go : Dec (i < rowCount (codeOf t (own t q))) → instructionIn t (indexOf t) q i .b < localCount (own t q)
         go (yes h) = rw e at (code-named i h)
         go (no h) =
             let f : nothing ≡ localNumber = rw (row-outside (codeOf t (own t q)) i (omega arith)) at e in

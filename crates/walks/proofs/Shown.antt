@@ -15,7 +15,7 @@ use Rattle.table.specs.declared.index.ProcedureEntry.{ProcedureEntry}
 use Rattle.table.specs.Format.{opMvLoc, opCpLoc, opStLoc, opBorrowLoc, opCall, opRet}
 use Rattle.table.specs.Rows.{rowCount}
 use Rattle.table.specs.Index.{indexOf}
-use Rattle.program.specs.Program.{procedureIn, codeOf, localCount, isParameter, parametersEnd, parameterKinds, resultKinds}
+use Rattle.program.specs.Program.{procedureIn, codeOf, localCount, isParameter, parametersEnd, parameterKinds, resultKinds, parameterCount}
 use Rattle.names.specs.Names.{nothing, localNumber, names}
 use Rattle.kinds.specs.Kinds.{good}
 use Rattle.kinds.specs.Effects.{effects, effectOf}
@@ -24,18 +24,19 @@ use Rattle.operands.specs.Flow.{onto, effectIn, Flow}
 use Rattle.operands.proofs.Flow.{operands-flow}
 use Rattle.flow.specs.Steps.{nexts}
 use Rattle.flow.specs.Walks.{Slot, entry}
-use Rattle.flow.specs.Places.{statusAfter, localMoves, localNodes, operandMarked}
+use Rattle.flow.specs.Places.{statusAfter, localMoves, localNodes, operandMarked, markNodes}
 use Rattle.flow.specs.Paths.{Shallow}
 use Rattle.flow.proofs.Locals as locals
 use Rattle.flow.proofs.Marks.{operand-mark-shown, operand-mark-found}
-use Rattle.locals.specs.Locals.{parameterCount, needsFull, nodesOf, leavesEmpty, leavesFull}
-use Rattle.steps.specs.Steps.{nothingGiven, stepOf, stepAt}
-use Rattle.leaks.specs.Leaks.{marksOf}
+use Rattle.locals.specs.Locals.{needsFull, nodesOf, leavesEmpty, leavesFull}
+use Rattle.steps.specs.Steps.{stepOf, stepAt, marksOf}
+use Rattle.steps.proofs.Laws.{marks-are}
+use Rattle.leaks.specs.Leaks.{guardedMarks}
 use Rattle.judging.proofs.Sizes.{sized}
 use Rattle.judging.specs.Judging.{UpToOperands}
-use Rattle.walks.specs.Checked.{WalkOf}
+use Rattle.walks.specs.Checked.{stepIn, startsIn, WalkOf}
 use Rattle.walks.specs.Refusals.{opcode, operand, ArrivesEmpty, ArrivesFull, ArrivesMarked}
-use Rattle.walks.proofs.Regular.{regular, step-takes}
+use Rattle.walks.proofs.Regular.{guarded-plain, regular, step-takes}
 use Rattle.walks.proofs.Follow.{nextBelow}
 use Rattle.walks.proofs.Depth.{Deep, deep, shallow, length-onto, good-same}
 use Rattle.walks.proofs.Rows.{own, entries-long, code-some, local-there}
@@ -60,27 +61,27 @@ params-fit : (t : List ℕ) (p : ProcedureEntry) → parameterCount t p ≤ loca
 unfolding parameterCount localCount parametersEnd
 params-fit t p = omega (arith, find-within (λ (i : ℕ). not (isParameter t i)) (p .row + 1) (p .results - (p .row + 1)))
 
-module _ (t : List ℕ) (p : ProcedureEntry) where
+module _ (t : List ℕ) (q : ℕ) where
   -- the nodes of a local are the same with whole steps
-  nodes-same : (l : ℕ) → nodesOf (codeOf t p) (parameterCount t p) l ≡ localNodes (nexts (codeOf t p)) (stepAt t (indexOf t) nothingGiven p) (parameterCount t p) (rowCount (codeOf t p)) l
+  nodes-same : (l : ℕ) → nodesOf (codeOf t (own t q)) (parameterCount t (own t q)) l ≡ localNodes (nexts (codeOf t (own t q))) (stepIn t q) (parameterCount t (own t q)) (rowCount (codeOf t (own t q))) l
   unfolding nodesOf localNodes localMoves statusAfter stepAt stepOf
   nodes-same l = refl
 
   -- a step's opcode and operand
-  pub step-opcode : (i : ℕ) → stepAt t (indexOf t) nothingGiven p i .opcode ≡ opcode t p i
+  pub step-opcode : (i : ℕ) → stepIn t q i .opcode ≡ opcode t q i
   unfolding stepAt stepOf
   step-opcode i = refl
 
-  pub step-operand : (i : ℕ) → stepAt t (indexOf t) nothingGiven p i .operand ≡ operand t p i
+  pub step-operand : (i : ℕ) → stepIn t q i .operand ≡ operand t q i
   unfolding stepAt stepOf
   step-operand i = refl
 
   -- a Call takes its parameters, Ret the results
-  pub call-takes : (i : ℕ) → opcode t p i ≡ opCall → stepAt t (indexOf t) nothingGiven p i .takes ≡ length (parameterKinds t (procedureIn (indexOf t) (operand t p i)))
+  pub call-takes : (i : ℕ) → opcode t q i ≡ opCall → stepIn t q i .takes ≡ length (parameterKinds t (procedureIn (indexOf t) (operand t q i)))
   unfolding stepAt stepOf effectOf effects
   call-takes i e = rw e
 
-  pub ret-takes : (i : ℕ) → opcode t p i ≡ opRet → stepAt t (indexOf t) nothingGiven p i .takes ≡ length (resultKinds t p)
+  pub ret-takes : (i : ℕ) → opcode t q i ≡ opRet → stepIn t q i .takes ≡ length (resultKinds t (own t q))
   unfolding stepAt stepOf effectOf effects
   ret-takes i e = rw e
 
@@ -96,71 +97,69 @@ module _ (t : List ℕ) (a : UpToOperands t) (q : ℕ) (there : q < indexOf t .p
   some = code-some t q there few (rowCount t) (a .byNames)
 
   -- what they name as a local is there
-  pub named-local : (i : ℕ) → getD names (opcode t (own t q) i) nothing ≡ localNumber → operand t (own t q) i < localCount (own t q)
+  pub named-local : (i : ℕ) → getD names (opcode t q i) nothing ≡ localNumber → operand t q i < localCount (own t q)
   named-local = local-there t q there few (rowCount t) (a .byNames)
 
   -- StLoc's local is there
-  stores : (i : ℕ) → stepAt t (indexOf t) nothingGiven (own t q) i .opcode ≡ opStLoc → stepAt t (indexOf t) nothingGiven (own t q) i .operand < localCount (own t q)
-  stores i e = rw (step-operand t (own t q) i) (named-local i (stores-local _ (sym (step-opcode t (own t q) i) ∙ e)))
+  stores : (i : ℕ) → stepIn t q i .opcode ≡ opStLoc → stepIn t q i .operand < localCount (own t q)
+  stores i e = rw (step-operand t q i) (named-local i (stores-local _ (sym (step-opcode t q i) ∙ e)))
 
   -- no walk arrives with more than 16 operands
-  few-operands : Shallow (nexts (codeOf t (own t q))) (stepAt t (indexOf t) nothingGiven (own t q))
-      (entry (λ (l : ℕ). false) (parameterCount t (own t q)) (localCount (own t q)))
-  few-operands = shallow t (indexOf t) nothingGiven (own t q) _ some flow-at
+  few-operands : Shallow (nexts (codeOf t (own t q))) (stepIn t q)
+      (entry (startsIn t q) (parameterCount t (own t q)) (localCount (own t q)))
+  few-operands = shallow t (indexOf t) (guardedMarks t) (guarded-plain t) (own t q) _ some flow-at
 
   -- where a walk arrives
-  pub arrived : {k i : ℕ} {ls : List Slot} {ms : List Bool} → WalkOf t (own t q) k i ls ms → Deep t (indexOf t) (own t q) i ms
-  arrived = deep t (indexOf t) nothingGiven (own t q) _ some flow-at
+  pub arrived : {k i : ℕ} {ls : List Slot} {ms : List Bool} → WalkOf t q k i ls ms → Deep t (indexOf t) (own t q) i ms
+  arrived = deep t (indexOf t) (guardedMarks t) (guarded-plain t) (own t q) _ some flow-at
 
   -- local l on arriving at instruction i
   module _ (l i : ℕ) where
-    pub empty-shown : leavesEmpty t (own t q) l i ≡ true → ArrivesEmpty t (own t q) i l
+    pub empty-shown : leavesEmpty t (own t q) l i ≡ true → ArrivesEmpty t q i l
     unfolding leavesEmpty
     empty-shown e =
         let b = both (ltb l (localCount (own t q))) _ .0 e in
-        let r = locals.empty-shown (nexts (codeOf t (own t q))) (stepAt t (indexOf t) nothingGiven (own t q)) (λ (l : ℕ). false)
+        let r = locals.empty-shown (nexts (codeOf t (own t q))) (stepIn t q) (startsIn t q)
         (parameterCount t (own t q)) (localCount (own t q)) l (ltb-true l _ (b .0)) (rowCount (codeOf t (own t q))) some (nextBelow (codeOf t (own t q))) i (rw nodes-same at (b .1)) in
         (r .0, r .2, r .3, r .4, r .5)
 
-    pub full-shown : leavesFull t (own t q) l i ≡ true → ArrivesFull t (own t q) i l
+    pub full-shown : leavesFull t (own t q) l i ≡ true → ArrivesFull t q i l
     unfolding leavesFull
     full-shown e =
         let b = both (ltb l (localCount (own t q))) _ .0 e in
-        let r = locals.full-shown (nexts (codeOf t (own t q))) (stepAt t (indexOf t) nothingGiven (own t q)) (λ (l : ℕ). false)
+        let r = locals.full-shown (nexts (codeOf t (own t q))) (stepIn t q) (startsIn t q)
         (parameterCount t (own t q)) (localCount (own t q)) l (ltb-true l _ (b .0)) (rowCount (codeOf t (own t q))) some (nextBelow (codeOf t (own t q))) i (rw nodes-same at (b .1)) in
         (r .0, r .2, r .3, r .4, r .5, r .6)
 
     module _ (h : l < localCount (own t q)) where
-      pub empty-found : ArrivesEmpty t (own t q) i l → leavesEmpty t (own t q) l i ≡ true
+      pub empty-found : ArrivesEmpty t q i l → leavesEmpty t (own t q) l i ≡ true
       unfolding leavesEmpty
       empty-found (k, ls, ms, w, z) = rw (lt-ltb l _ h, nodes-same)
-          (locals.empty-found (nexts (codeOf t (own t q))) (stepAt t (indexOf t) nothingGiven (own t q)) (λ (l : ℕ). false)
+          (locals.empty-found (nexts (codeOf t (own t q))) (stepIn t q) (startsIn t q)
           (parameterCount t (own t q)) (localCount (own t q)) l h (rowCount (codeOf t (own t q))) some (nextBelow (codeOf t (own t q))) w z)
 
-      pub full-found : ArrivesFull t (own t q) i l → leavesFull t (own t q) l i ≡ true
+      pub full-found : ArrivesFull t q i l → leavesFull t (own t q) l i ≡ true
       unfolding leavesFull
       full-found (k, ls, ms, m, w, z) = rw (lt-ltb l _ h, nodes-same)
-          (locals.full-found (nexts (codeOf t (own t q))) (stepAt t (indexOf t) nothingGiven (own t q)) (λ (l : ℕ). false)
+          (locals.full-found (nexts (codeOf t (own t q))) (stepIn t q) (startsIn t q)
           (parameterCount t (own t q)) (localCount (own t q)) l h (rowCount (codeOf t (own t q))) some (nextBelow (codeOf t (own t q))) w m z)
 
   -- operand j on arriving at instruction i
   module _ (i j : ℕ) where
-    pub marked-shown : j < 16 → operandMarked (marksOf t (indexOf t) nothingGiven (own t q)) i j ≡ true → ArrivesMarked t (own t q) i j
-    unfolding marksOf
+    pub marked-shown : j < 16 → operandMarked (marksOf t (indexOf t) (guardedMarks t) q (own t q)) i j ≡ true → ArrivesMarked t q i j
     marked-shown h e =
-        let r = operand-mark-shown (nexts (codeOf t (own t q))) (stepAt t (indexOf t) nothingGiven (own t q)) (λ (l : ℕ). false)
+        let r = operand-mark-shown (nexts (codeOf t (own t q))) (stepIn t q) (startsIn t q)
         (parameterCount t (own t q)) (localCount (own t q)) (params-fit t (own t q)) (sized t (rowCount t) (a .byRows) .locals q there)
-        (regular t (indexOf t) nothingGiven (own t q)) few-operands stores (rowCount (codeOf t (own t q))) some (nextBelow (codeOf t (own t q))) i j h e in
+        (regular t (indexOf t) (guardedMarks t) (own t q) (guarded-plain t)) few-operands stores (rowCount (codeOf t (own t q))) some (nextBelow (codeOf t (own t q))) i j h (rw (marks-are t (indexOf t) (guardedMarks t) q (own t q)) at e) in
         (r .0, r .2, r .3, r .4, r .5)
 
-    pub marked-found : ArrivesMarked t (own t q) i j → operandMarked (marksOf t (indexOf t) nothingGiven (own t q)) i j ≡ true
-    unfolding marksOf
-    marked-found (k, ls, ms, w, z) = go (decLt j 16)
+    pub marked-found : ArrivesMarked t q i j → operandMarked (marksOf t (indexOf t) (guardedMarks t) q (own t q)) i j ≡ true
+    marked-found (k, ls, ms, w, z) = rw (marks-are t (indexOf t) (guardedMarks t) q (own t q)) (go (decLt j 16))
       where
-        go : Dec (j < 16) → operandMarked (marksOf t (indexOf t) nothingGiven (own t q)) i j ≡ true
-        go (yes h) = operand-mark-found (nexts (codeOf t (own t q))) (stepAt t (indexOf t) nothingGiven (own t q)) (λ (l : ℕ). false)
+        go : Dec (j < 16) → operandMarked (markNodes (nexts (codeOf t (own t q))) (stepIn t q) (startsIn t q) (parameterCount t (own t q)) (rowCount (codeOf t (own t q)))) i j ≡ true
+        go (yes h) = operand-mark-found (nexts (codeOf t (own t q))) (stepIn t q) (startsIn t q)
             (parameterCount t (own t q)) (localCount (own t q)) (params-fit t (own t q)) (sized t (rowCount t) (a .byRows) .locals q there)
-            (regular t (indexOf t) nothingGiven (own t q)) few-operands stores (rowCount (codeOf t (own t q))) some (nextBelow (codeOf t (own t q))) w j h z
+            (regular t (indexOf t) (guardedMarks t) (own t q) (guarded-plain t)) few-operands stores (rowCount (codeOf t (own t q))) some (nextBelow (codeOf t (own t q))) w j h z
         go (no h) = absurd (false≢true (sym (List·getD-eq-default ms false {n = j} (omega (arith, arrived w .bounded))) ∙ z))
 
   -- there are at most 16 operands before an instruction, whether a walk arrives or not, so it takes at most 16
@@ -177,8 +176,8 @@ module _ (t : List ℕ) (a : UpToOperands t) (q : ℕ) (there : q < indexOf t .p
           let z = ap length (good-same (sym n ∙ e)) in
           omega (arith, z, f .few, length-onto ks rest)
 
-  pub takes-few : (i : ℕ) → i < rowCount (codeOf t (own t q)) → stepAt t (indexOf t) nothingGiven (own t q) i .takes ≤ 16
+  pub takes-few : (i : ℕ) → i < rowCount (codeOf t (own t q)) → stepIn t q i .takes ≤ 16
   takes-few i h =
       let f = flow-at i h in
       let n = before-few i h (effectIn t (indexOf t) (own t q) (f .top) i .takes) (f .rest) (f .before) in
-      omega (arith, n, step-takes t (indexOf t) nothingGiven (own t q) (f .top) i)
+      omega (arith, n, step-takes t (indexOf t) (guardedMarks t) (own t q) (f .top) i)

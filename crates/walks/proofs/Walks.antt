@@ -9,16 +9,14 @@ use Rattle.table.specs.declared.Verdict.the-variants.{Accepted}
 use Rattle.table.specs.Format.{opCall, opRet}
 use Rattle.table.specs.Rows.{rowCount}
 use Rattle.table.specs.Index.{indexOf}
-use Rattle.program.specs.Program.{procedureIn, codeOf, localCount}
+use Rattle.program.specs.Program.{codeOf, localCount, parameterCount}
 use Rattle.flow.specs.Steps.{nexts}
 use Rattle.flow.specs.Walks.{Slot, empty, full, markOf}
 use Rattle.flow.proofs.Marks.{no-local-mark, no-operand-mark}
-use Rattle.locals.specs.Locals.{parameterCount}
-use Rattle.steps.specs.Steps.{nothingGiven, stepAt}
 use Rattle.leaks.specs.Leaks.{inTrusted}
 use Rattle.judging.specs.Judging.{AcceptedTable, judgeOf}
 use Rattle.judging.proofs.Accepts.{accepted, up-to-operands}
-use Rattle.walks.specs.Checked.{WalkOf, Checked}
+use Rattle.walks.specs.Checked.{stepIn, startsIn, WalkOf, Checked}
 use Rattle.walks.specs.Refusals.{opcode, LocalCause, used-empty, stored-over, left-behind, LeakCause, given-away, returned}
 use Rattle.walks.proofs.Rows.{own}
 use Rattle.walks.proofs.Guest.{no-fresh}
@@ -42,39 +40,39 @@ not-true-false true h = absurd (h refl)
 not-true-false false h = refl
 
 -- Where a walk of procedure q of an accepted table arrives.
-module _ (t : List ℕ) (a : AcceptedTable t) (q : ℕ) (there : q < indexOf t .procedures) (few : q < 128) {k i : ℕ} {ls : List Slot} {ms : List Bool} (w : WalkOf t (own t q) k i ls ms) where
+module _ (t : List ℕ) (a : AcceptedTable t) (q : ℕ) (there : q < indexOf t .procedures) (few : q < 128) {k i : ℕ} {ls : List Slot} {ms : List Bool} (w : WalkOf t q k i ls ms) where
   -- at an instruction that is there
   inside : i < rowCount (codeOf t (own t q))
   inside = arrived t (up-to-operands a) q there few w .inside
 
   -- it earns no number
-  no-local : {number : ℕ} → LocalCause t (own t q) i number → ⊥
+  no-local : {number : ℕ} → LocalCause t q i number → ⊥
   no-local c = locals-accepted t (up-to-operands a) .0 (a .byLocals) _ _ (q, i, there, inside, refl, c)
 
-  no-leak : {number : ℕ} → LeakCause t (own t q) i number → ⊥
+  no-leak : {number : ℕ} → LeakCause t q i number → ⊥
   no-leak c = leaks-accepted t (up-to-operands a) .0 (a .byLeaks) _ _ (q, i, there, inside, refl, c)
 
   -- in a guest nothing is marked
   guest-walk : inTrusted t (indexOf t) (own t q) ≡ false → ((l : ℕ) → markOf (getD ls l empty) ≡ false) × ((j : ℕ) → getD ms j false ≡ false)
   guest-walk g =
       let fresh = no-fresh t q there few (rowCount t) (a .byRows) (a .byNames) (flow-at t (up-to-operands a) q there few) g in (
-        no-local-mark (nexts (codeOf t (own t q))) (stepAt t (indexOf t) nothingGiven (own t q)) (λ (l : ℕ). false)
+        no-local-mark (nexts (codeOf t (own t q))) (stepIn t q) (startsIn t q)
             (parameterCount t (own t q)) (localCount (own t q)) fresh (λ l. refl) w,
-        no-operand-mark (nexts (codeOf t (own t q))) (stepAt t (indexOf t) nothingGiven (own t q)) (λ (l : ℕ). false)
+        no-operand-mark (nexts (codeOf t (own t q))) (stepIn t q) (startsIn t q)
             (parameterCount t (own t q)) (localCount (own t q)) fresh (λ l. refl) w,
       )
 
   -- what a Call takes, and what Ret returns, is not marked
-  none-taken : (opcode t (own t q) i ≡ opCall) ⊎ (opcode t (own t q) i ≡ opRet) → (j : ℕ) → j < stepAt t (indexOf t) nothingGiven (own t q) i .takes → getD ms j false ≡ false
+  none-taken : (opcode t q i ≡ opCall) ⊎ (opcode t q i ≡ opRet) → (j : ℕ) → j < stepIn t q i .takes → getD ms j false ≡ false
   none-taken c j h = go (inTrusted t (indexOf t) (own t q)) refl c
     where
-      go : (b : Bool) → inTrusted t (indexOf t) (own t q) ≡ b → (opcode t (own t q) i ≡ opCall) ⊎ (opcode t (own t q) i ≡ opRet) → getD ms j false ≡ false
-      go true tr (inl c) = not-true-false _ (λ z. no-leak (given-away tr c j (rw (call-takes t (own t q) i c) at h) (k, ls, ms, w, z)))
-      go true tr (inr c) = not-true-false _ (λ z. no-leak (returned tr c j (rw (ret-takes t (own t q) i c) at h) (k, ls, ms, w, z)))
+      go : (b : Bool) → inTrusted t (indexOf t) (own t q) ≡ b → (opcode t q i ≡ opCall) ⊎ (opcode t q i ≡ opRet) → getD ms j false ≡ false
+      go true tr (inl c) = not-true-false _ (λ z. no-leak (given-away tr c j (rw (call-takes t q i c) at h) (k, ls, ms, w, z)))
+      go true tr (inr c) = not-true-false _ (λ z. no-leak (returned tr c j (rw (ret-takes t q i c) at h) (k, ls, ms, w, z)))
       go false g c = guest-walk g .1 j
 
 -- what an accepted table gives at the end of every walk
-pub checked : (t : List ℕ) → AcceptedTable t → (q : ℕ) → q < indexOf t .procedures → q < 128 → {k i : ℕ} {ls : List Slot} {ms : List Bool} → WalkOf t (procedureIn (indexOf t) q) k i ls ms → Checked t (procedureIn (indexOf t) q) i ls ms
+pub checked : (t : List ℕ) → AcceptedTable t → (q : ℕ) → q < indexOf t .procedures → q < 128 → {k i : ℕ} {ls : List Slot} {ms : List Bool} → WalkOf t q k i ls ms → Checked t q i ls ms
 checked t a q there few {k} {i} {ls} {ms} w = record {
   full-there = λ e. slot-full _ (λ z. no-local t a q there few w (used-empty (needs-three _ e) (k, ls, ms, w, z)));
   none-over = λ e r. slot-empty _ (λ m z. no-local t a q there few w (stored-over e r (k, ls, ms, m, w, z)));
@@ -85,6 +83,6 @@ checked t a q there few {k} {i} {ls} {ms} w = record {
 }
 
 -- the same, from the verdict
-pub judged : (t : List ℕ) (n : ℕ) → judgeOf t ≡ Accepted n → (q : ℕ) → q < indexOf t .procedures → q < 128 → {k i : ℕ} {ls : List Slot} {ms : List Bool} → WalkOf t (procedureIn (indexOf t) q) k i ls ms
-    → Checked t (procedureIn (indexOf t) q) i ls ms
+pub judged : (t : List ℕ) (n : ℕ) → judgeOf t ≡ Accepted n → (q : ℕ) → q < indexOf t .procedures → q < 128 → {k i : ℕ} {ls : List Slot} {ms : List Bool} → WalkOf t q k i ls ms
+    → Checked t q i ls ms
 judged t n e = checked t (accepted t n e)

@@ -17,20 +17,8 @@ abbrev μ-loop : tie.MeasureT-loop
 loop-holds : tie.Need-loop-holds Inv-loop μ-loop
 loop-holds c = refl
 
-row-at-requires : tie.Need-row-at-requires Inv-loop μ-loop
-row-at-requires c κs = search needs
-
-row-kind-requires : tie.Need-row-kind-requires Inv-loop μ-loop
-row-kind-requires c κs = search needs
-
 returns : tie.Need-returns Inv-loop μ-loop
 returns c = sym (c .before .before .before .before .loop .inv ∙ numbers-not _ _ _ (c .before .before .before .loop-test .taken) (λ q. c .if1 .taken (rw (← c .before .before .row-at .ensures, ← c .before .row-kind .ensures) at q)))
-
-add-i : tie.Need-add-i Inv-loop μ-loop
-add-i c = omega arith
-
-loop-less : tie.Need-loop-less Inv-loop μ-loop
-loop-less c = omega arith
 
 loop-again : tie.Need-loop-again Inv-loop μ-loop
 loop-again c = c .before .before .before .before .loop .inv ∙ numbers-more _ _ _ (c .before .before .before .loop-test .taken) (rw (← c .before .before .row-at .ensures, ← c .before .row-kind .ensures) (c .if1 .left))
@@ -39,16 +27,4 @@ returns-2 : tie.Need-returns-2 Inv-loop μ-loop
 returns-2 c = sym (c .before .loop .inv ∙ numbers-end _ _ _ (c .loop-test .left))
 
 pub all-numbers-spec : {M : Type 1} → statement M
-all-numbers-spec =
-    tie.close
-    (tie.spec
-    Inv-loop
-    μ-loop
-    loop-holds
-    row-at-requires
-    row-kind-requires
-    returns
-    add-i
-    loop-less
-    loop-again
-    returns-2)
+all-numbers-spec = tie.close (tie.spec Inv-loop μ-loop loop-holds (λ c κs. search needs) (λ c κs. search needs) returns (λ c. omega arith) (λ c. omega arith) loop-again returns-2)

@@ -8,27 +8,9 @@ use borrow.Author.Needs.{needs}
 use Rattle.calls.proofs.list_fault.Statement.{statement}
 use Rattle.calls.proofs.list_fault.Tie as tie
 
-row-at-requires : tie.Need-row-at-requires
-row-at-requires c κs = search needs
-
-bad-form-requires : tie.Need-bad-form-requires
-bad-form-requires c κs = search needs
-
 returns : tie.Need-returns
 unfolding listFault
 returns c = rw (← c .before .before .row-at .ensures, sym (c .before .bad-form .ensures) ∙ c .if1 .taken)
-
-cast-procedure-in : tie.Need-cast-procedure-in
-cast-procedure-in c = search needs
-
-procedure-in-requires : tie.Need-procedure-in-requires
-procedure-in-requires c κs = search needs
-
-argument-count-requires : tie.Need-argument-count-requires
-argument-count-requires c κs = search needs
-
-bad-call-requires : tie.Need-bad-call-requires
-bad-call-requires c κs = search needs
 
 -- the answer of bad_call is the rule's
 call-is : (c : tie.After-bad-call) → badCall (c .before .before .before .before .before .before .before .before .before .before .before .args .table .now) (c .before .before .before .before .before .before .before .before .before .before .before .args .index) (c .before .before .before .before .before .before .before .before .row-at .result) (arguments (c .before .before .before .before .before .before .before .before .before .before .before .args .list .now) (c .before .before .before .before .before .before .before .before .before .before .before .args .i + 1) (rowCount (c .before .before .before .before .before .before .before .before .before .before .before .args .list .now) - (c .before .before .before .before .before .before .before .before .before .before .before .args .i + 1))) ≡ c .bad-call .result
@@ -47,16 +29,4 @@ unfolding listFault
 returns-4 c = rw (← c .before .before .before .before .row-at .ensures, sym (c .before .before .before .bad-form .ensures) ∙ c .before .before .if1 .left, ne-eqb _ _ (c .if2 .left))
 
 pub list-fault-spec : {M : Type 1} → statement M
-list-fault-spec =
-    tie.close
-    (tie.spec
-    row-at-requires
-    bad-form-requires
-    returns
-    cast-procedure-in
-    procedure-in-requires
-    argument-count-requires
-    bad-call-requires
-    returns-2
-    returns-3
-    returns-4)
+list-fault-spec = tie.close (tie.spec (λ c κs. search needs) (λ c κs. search needs) returns (λ c. search needs) (λ c κs. search needs) (λ c κs. search needs) (λ c κs. search needs) returns-2 returns-3 returns-4)

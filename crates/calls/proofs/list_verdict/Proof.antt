@@ -28,18 +28,9 @@ loop-holds : tie.Need-loop-holds Inv-loop μ-loop
 unfolding listOf
 loop-holds c = (omega arith, rw (le-ltb _ _ (c .before .if1 .left), c .if2 .left) (whole Accepted Refused _ _))
 
-list-fault-requires : tie.Need-list-fault-requires Inv-loop μ-loop
-list-fault-requires c κs = search needs
-
 returns-3 : tie.Need-returns-3 Inv-loop μ-loop
 returns-3 c = let z = sym (c .before .list-fault .ensures) in
     sym (c .before .before .before .loop .inv .1 ∙ faulty Accepted Refused _ _ _ (omega arith) (λ q. c .if3 .taken (sym z ∙ q)) ∙ ap (λ (x : ℕ). Refused x (c .before .before .before .loop .i)) z)
-
-add-i : tie.Need-add-i Inv-loop μ-loop
-add-i c = omega arith
-
-loop-less : tie.Need-loop-less Inv-loop μ-loop
-loop-less c = omega arith
 
 loop-again : tie.Need-loop-again Inv-loop μ-loop
 loop-again c = (omega arith, c .before .before .before .loop .inv .1 ∙ fine Accepted Refused _ _ _ (omega arith) (sym (c .before .list-fault .ensures) ∙ c .if3 .left))
@@ -49,17 +40,4 @@ returns-4 c = let e : c .before .loop .i ≡ rowCount (c .before .before .before
     sym (c .before .loop .inv .1 ∙ rw e (done Accepted Refused _ _))
 
 pub list-verdict-spec : {M : Type 1} → statement M
-list-verdict-spec =
-    tie.close
-    (tie.spec
-    Inv-loop
-    μ-loop
-    returns
-    returns-2
-    loop-holds
-    list-fault-requires
-    returns-3
-    add-i
-    loop-less
-    loop-again
-    returns-4)
+list-verdict-spec = tie.close (tie.spec Inv-loop μ-loop returns returns-2 loop-holds (λ c κs. search needs) returns-3 (λ c. omega arith) (λ c. omega arith) loop-again returns-4)

@@ -6,12 +6,6 @@ use native.Mathlib.Omega.{arith}
 use Rattle.calls.proofs.procedure_in.Statement.{statement}
 use Rattle.calls.proofs.procedure_in.Tie as tie
 
-mul-result : tie.Need-mul-result
-mul-result c = search needs
-
-element-copy-out-result : tie.Need-element-copy-out-result
-element-copy-out-result c = search needs
-
 returns : tie.Need-returns
 unfolding procedureIn
 returns c = search needs
@@ -23,4 +17,4 @@ returns-2 c = let l = c .before .args .t1 .«procedure_entries» in
     sym (List·getD-eq-default l _ (omega arith))
 
 pub procedure-in-spec : {M : Type 1} → statement M
-procedure-in-spec = tie.close (tie.spec mul-result element-copy-out-result returns returns-2)
+procedure-in-spec = tie.close (tie.spec (λ c. search needs) (λ c. search needs) returns returns-2)

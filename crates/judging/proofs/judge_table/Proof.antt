@@ -35,98 +35,26 @@ after-locals c = after-operands (c .before .before .before) ∙ accepted-here lo
 after-leaks : (c : tie.After-enum-told5) → judgeOf (c .before .before .before .before .before .before .before .before .before .before .before .before .before .before .before .before .before .args .table .now) ≡ inOrder [] (c .before .before .before .before .before .before .before .before .before .before .before .before .before .before .before .before .before .args .table .now)
 after-leaks c = after-locals (c .before .before .before) ∙ accepted-here leaksOf [] (c .before .before .before .before .before .before .before .before .before .before .before .before .before .before .before .before .before .args .table .now) (by-leaks _ (form-fine (c .before .before .before .before .before .before .before .before .before .before .before .before .before)) (c .before .before .before .before .before .before .before .before .before .before .before .before .index-of .ensures) (c .before .before .leaks-with .ensures) ∙ c .enum-told5 .given .1)
 
-form-pass-requires : tie.Need-form-pass-requires
-form-pass-requires c κs = search needs
-
-enum-known-form : tie.Need-enum-known-form
-enum-known-form c = search needs
-
 returns : tie.Need-returns
 returns c = sym (form-refused _ (sym (c .before .before .before .form-pass .ensures) ∙ c .before .form .given .1))
-
-enum-told : tie.Need-enum-told
-enum-told c = search needs
-
-index-of-requires : tie.Need-index-of-requires
-index-of-requires c κs = search needs
-
-names-with-requires : tie.Need-names-with-requires
-names-with-requires c κs = search needs
-
-enum-known-names : tie.Need-enum-known-names
-enum-known-names c = search needs
 
 returns-2 : tie.Need-returns-2
 unfolding namesOf
 returns-2 c = sym (after-form (c .before .before .before .before .before) ∙ refused-here namesOf _ _ (by-index namesWith (c .before .before .before .before .index-of .ensures) (c .before .before .before .names-with .ensures) ∙ c .before .names .given .1))
 
-enum-told-2 : tie.Need-enum-told-2
-enum-told-2 c = search needs
-
-operands-with-requires : tie.Need-operands-with-requires
-operands-with-requires c κs = search needs
-
-enum-known-operands : tie.Need-enum-known-operands
-enum-known-operands c = search needs
-
 returns-3 : tie.Need-returns-3
 unfolding operandsOf
 returns-3 c = sym (after-names (c .before .before .before .before) ∙ refused-here operandsOf _ _ (by-index operandsWith (c .before .before .before .before .before .before .before .index-of .ensures) (c .before .before .before .operands-with .ensures) ∙ c .before .operands .given .1))
 
-enum-told-3 : tie.Need-enum-told-3
-enum-told-3 c = search needs
-
-locals-with-requires : tie.Need-locals-with-requires
-locals-with-requires c κs = search needs
-
-enum-known-locals : tie.Need-enum-known-locals
-enum-known-locals c = search needs
-
 returns-4 : tie.Need-returns-4
 returns-4 c = sym (after-operands (c .before .before .before .before) ∙ refused-here localsOf _ _ (by-locals _ (form-fine (c .before .before .before .before .before .before .before .before .before .before .before)) (c .before .before .before .before .before .before .before .before .before .before .index-of .ensures) (c .before .before .before .locals-with .ensures) ∙ c .before .locals .given .1))
 
-enum-told-4 : tie.Need-enum-told-4
-enum-told-4 c = search needs
-
-leaks-with-requires : tie.Need-leaks-with-requires
-leaks-with-requires c κs = search needs
-
-enum-known-leaks : tie.Need-enum-known-leaks
-enum-known-leaks c = search needs
-
 returns-5 : tie.Need-returns-5
 returns-5 c = sym (after-locals (c .before .before .before .before) ∙ refused-here leaksOf _ _ (by-leaks _ (form-fine (c .before .before .before .before .before .before .before .before .before .before .before .before .before .before)) (c .before .before .before .before .before .before .before .before .before .before .before .before .before .index-of .ensures) (c .before .before .before .leaks-with .ensures) ∙ c .before .leaks .given .1))
-
-enum-told-5 : tie.Need-enum-told-5
-enum-told-5 c = search needs
 
 returns-6 : tie.Need-returns-6
 unfolding inOrder
 returns-6 c = sym (after-leaks c)
 
 pub judge-table-spec : {M : Type 1} → statement M
-judge-table-spec =
-    tie.close
-    (tie.spec
-    form-pass-requires
-    enum-known-form
-    returns
-    enum-told
-    index-of-requires
-    names-with-requires
-    enum-known-names
-    returns-2
-    enum-told-2
-    operands-with-requires
-    enum-known-operands
-    returns-3
-    enum-told-3
-    locals-with-requires
-    enum-known-locals
-    returns-4
-    enum-told-4
-    leaks-with-requires
-    enum-known-leaks
-    returns-5
-    enum-told-5
-    returns-6)
+judge-table-spec = tie.close (tie.spec (λ c κs. search needs) (λ c. search needs) returns (λ c. search needs) (λ c κs. search needs) (λ c κs. search needs) (λ c. search needs) returns-2 (λ c. search needs) (λ c κs. search needs) (λ c. search needs) returns-3 (λ c. search needs) (λ c κs. search needs) (λ c. search needs) returns-4 (λ c. search needs) (λ c κs. search needs) (λ c. search needs) returns-5 (λ c. search needs) returns-6)

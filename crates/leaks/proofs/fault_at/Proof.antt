@@ -1,6 +1,6 @@
 use borrow.Author.Tests.{ne-eqb}
 use borrow.Author.Needs.{needs}
-use Rattle.steps.specs.Steps.{viewStep}
+use Rattle.steps.specs.Shapes.{viewStep}
 use Rattle.leaks.specs.Leaks.{leakIn}
 use Rattle.leaks.proofs.fault_at.Statement.{statement}
 use Rattle.leaks.proofs.fault_at.Tie as tie

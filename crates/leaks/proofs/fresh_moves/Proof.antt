@@ -11,10 +11,10 @@ use Rattle.leaks.proofs.fresh_moves.Statement.{statement}
 use Rattle.leaks.proofs.fresh_moves.Tie as tie
 
 abbrev Inv-loop : tie.InvT-loop
-Inv-loop s moves₀ r₀ moves r = (r ≤ 4) × Placed s (placesOf moves) r
+Inv-loop s moves₀ r₀ moves r = (r ≤ 8) × Placed s (placesOf moves) r
 
 abbrev μ-loop : tie.MeasureT-loop
-μ-loop s moves₀ r₀ moves r = 4 - r
+μ-loop s moves₀ r₀ moves r = 8 - r
 
 add-requires : tie.Need-add-requires Inv-loop μ-loop
 add-requires c κs = search needs

@@ -8,7 +8,8 @@ use Rattle.laws.specs.Lists.{every}
 use Rattle.table.specs.declared.Row.{Row}
 use Rattle.table.specs.Rows.{rowCount, rowAt}
 use Rattle.leaks.specs.Unmarked.{canMark}
-use Rattle.leaks.proofs.Unmarked.{every-none, every-next, every-fails, quiet-many, quiet-fails, quiet-all}
+use Rattle.laws.proofs.Lists.{every-none, every-next, every-fails}
+use Rattle.leaks.proofs.Unmarked.{quiet-many, quiet-fails, quiet-all}
 use Rattle.leaks.proofs.is_quiet.Statement.{statement}
 use Rattle.leaks.proofs.is_quiet.Tie as tie
 

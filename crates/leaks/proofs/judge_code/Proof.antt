@@ -6,7 +6,8 @@ use borrow.Author.Needs.{needs}
 use Rattle.laws.proofs.First.{from, fine, faulty, done, whole}
 use Rattle.table.specs.declared.Verdict.the-variants.{Accepted, Refused}
 use Rattle.program.specs.Program.{codeVerdict}
-use Rattle.leaks.specs.Leaks.{leakIn, stepsOf}
+use Rattle.leaks.specs.Within.{stepsOf}
+use Rattle.leaks.specs.Leaks.{leakIn}
 use Rattle.leaks.proofs.Laws.{fault-is}
 use Rattle.leaks.proofs.judge_code.Statement.{statement}
 use Rattle.leaks.proofs.judge_code.Tie as tie

@@ -8,10 +8,9 @@ use lib.Seq.{length-take-le, take-at}
 use lib.ListN.{length, take, drop}
 use Rattle.laws.specs.First.{firstFault}
 use Rattle.table.specs.Rows.{rowCount}
-use Rattle.program.specs.Program.{codeVerdict}
+use Rattle.program.specs.Program.{codeVerdict, parameterCount}
 use Rattle.program.specs.Limits.{overLimits}
 use Rattle.program.proofs.Laws.{limits-held, limited-in, limited-out}
-use Rattle.locals.specs.Locals.{parameterCount}
 use Rattle.leaks.proofs.Laws.{procedure-verdict, parameters-fit}
 use Rattle.leaks.proofs.Unmarked.{quiet-verdict, unmarked-verdict}
 use Rattle.leaks.proofs.judge_procedure.Statement.{statement}
@@ -21,15 +20,15 @@ over-limits-requires : tie.Need-over-limits-requires
 over-limits-requires c κs = search needs
 
 returns : tie.Need-returns
-returns c = sym (rw (c .before .before .before .before .before .before .before .pre .0) (limited-out _ _ _ (sym (c .before .over-limits .ensures) ∙ c .if1 .taken)))
+returns c = λ q. sym (rw (c .before .before .before .before .before .before .pre .0) (limited-out _ _ _ (sym (c .before .over-limits .ensures) ∙ c .if1 .taken)))
 
 returns-2 : tie.Need-returns-2
 unfolding codeVerdict firstFault
-returns-2 c = rw (c .if2 .taken)
+returns-2 c = λ q. rw (c .if2 .taken)
 
 -- past the tests the procedure has code, and is not over a limit
 abbrev start : tie.Else2 → tie.Start
-start c = c .before .before .before .before .before .before .before .before
+start c = c .before .before .before .before .before .before .before
 
 in-limits : (c : tie.Else2) → overLimits (start c .args .table .now) (start c .args .own) ≡ false
 in-limits c = sym (c .before .before .over-limits .ensures) ∙ c .before .if1 .left
@@ -38,10 +37,10 @@ limits : (c : tie.Else2) → (parameterCount (start c .args .table .now) (start 
 limits c = let held = limits-held _ (start c .args .own) (in-limits c) in (parameters-fit _ _ (held .0), rw (start c .pre .0) (held .1))
 
 returns-3 : tie.Need-returns-3
-returns-3 c =
+returns-3 c = λ q.
     let k = c .before .before in
     rw (limited-in _ (start k .args .own) _ (in-limits k))
-    (quiet-verdict (start k .args .table .now) (start k .args .code .now) (start k .args .index) (start k .args .results .now) (start k .args .own) (start k .pre .0) (omega arith) (sym (c .before .is-quiet .ensures) ∙ c .if3 .taken))
+    (quiet-verdict (start k .args .table .now) (start k .args .code .now) (start k .args .index) q (start k .args .own) (start k .pre .0) (omega arith) (sym (c .before .is-quiet .ensures) ∙ c .if3 .taken))
 
 shapes-of-requires : tie.Need-shapes-of-requires
 shapes-of-requires c κs = let k = c .before .before in (start k .pre .0, limits k .1)
@@ -50,10 +49,10 @@ no-marks-made-requires : tie.Need-no-marks-made-requires
 no-marks-made-requires c κs = limits (c .before .before .before) .1
 
 returns-4 : tie.Need-returns-4
-returns-4 c =
+returns-4 c = λ q.
     let k = c .before .before .before .before .before in
     rw (limited-in _ (start k .args .own) _ (in-limits k))
-    (unmarked-verdict (start k .args .table .now) (start k .args .code .now) (start k .args .index) (start k .args .results .now) (start k .args .own) (start k .pre .0) (omega arith) _ (c .before .before .shapes-of .ensures) (sym (c .before .no-marks-made .ensures) ∙ c .if4 .taken))
+    (unmarked-verdict (start k .args .table .now) (start k .args .code .now) (start k .args .index) q (start k .args .own) (start k .pre .0) (omega arith) _ (c .before .before .shapes-of .ensures) (sym (c .before .no-marks-made .ensures) ∙ c .if4 .taken))
 
 parameters-of-requires : tie.Need-parameters-of-requires
 parameters-of-requires c κs = search needs
@@ -117,9 +116,9 @@ abbrev tested : tie.After-judge-code → tie.Else2
 tested c = known (searched (spread c))
 
 returns-5 : tie.Need-returns-5
-returns-5 c =
+returns-5 c = λ q.
     rw (limited-in _ (start (tested c) .args .own) _ (in-limits (tested c)))
-    (procedure-verdict (start (tested c) .args .table .now) (start (tested c) .args .code .now) (start (tested c) .args .index) (start (tested c) .args .results .now) (start (tested c) .args .own) _ _ _ _ (start (tested c) .pre .0) (searched (spread c) .parameters-of .ensures) (searched (spread c) .before .before .before .shapes-of .ensures) (filled (spread c) ∙ spread c .spread-marks .ensures) (c .judge-code .ensures))
+    (procedure-verdict (start (tested c) .args .table .now) (start (tested c) .args .code .now) (start (tested c) .args .index) q (start (tested c) .args .own) _ _ _ _ (start (tested c) .pre .0) (searched (spread c) .parameters-of .ensures) (searched (spread c) .before .before .before .shapes-of .ensures) (filled (spread c) ∙ spread c .spread-marks .ensures) (c .judge-code .ensures))
 
 pub judge-procedure-spec : {M : Type 1} → statement M
 judge-procedure-spec =

@@ -10,10 +10,10 @@ use Rattle.leaks.proofs.makes_no_mark.Statement.{statement}
 use Rattle.leaks.proofs.makes_no_mark.Tie as tie
 
 abbrev Inv-loop : tie.InvT-loop
-Inv-loop s r₀ r = (r ≤ 4) × Clear s r
+Inv-loop s r₀ r = (r ≤ 8) × Clear s r
 
 abbrev μ-loop : tie.MeasureT-loop
-μ-loop s r₀ r = 4 - r
+μ-loop s r₀ r = 8 - r
 
 returns : tie.Need-returns Inv-loop μ-loop
 returns c = sym (clear-many _ (c .if1 .taken))

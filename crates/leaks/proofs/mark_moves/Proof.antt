@@ -2,7 +2,7 @@ use Prim.Native.Nat.{ℕ}
 use mathlib.Core.Path.{sym, ap, _∙_}
 use borrow.Author.Needs.{needs}
 use Rattle.flow.specs.Places.{within, markMoves}
-use Rattle.steps.specs.Steps.{viewStep}
+use Rattle.steps.specs.Shapes.{viewStep}
 use Rattle.leaks.proofs.mark_moves.Statement.{statement}
 use Rattle.leaks.proofs.mark_moves.Tie as tie
 

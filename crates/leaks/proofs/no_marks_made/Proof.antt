@@ -6,9 +6,9 @@ use native.Mathlib.Omega.{arith}
 use borrow.Author.Needs.{needs}
 use borrow.Author.Tests.{not-true, not-false}
 use Rattle.laws.specs.Lists.{every}
-use Rattle.leaks.specs.Leaks.{stepsOf}
+use Rattle.leaks.specs.Within.{stepsOf}
 use Rattle.leaks.specs.Unmarked.{makesNoMark}
-use Rattle.leaks.proofs.Unmarked.{every-none, every-next, every-fails}
+use Rattle.laws.proofs.Lists.{every-none, every-next, every-fails}
 use Rattle.leaks.proofs.no_marks_made.Statement.{statement}
 use Rattle.leaks.proofs.no_marks_made.Tie as tie
 

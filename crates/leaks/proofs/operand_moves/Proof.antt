@@ -3,7 +3,7 @@ use mathlib.Core.Logic.{inl, inr}
 use mathlib.Core.Path.{ap, _∙_}
 use borrow.Author.Needs.{needs}
 use Rattle.spread.specs.Moves.{placesOf, added}
-use Rattle.steps.specs.Steps.{viewStep}
+use Rattle.steps.specs.Shapes.{viewStep}
 use Rattle.leaks.proofs.Moves.{operand-stored, operand-lost, operand-within, operand-past, length-fresh}
 use Rattle.leaks.proofs.operand_moves.Statement.{statement}
 use Rattle.leaks.proofs.operand_moves.Tie as tie
@@ -24,13 +24,19 @@ returns : tie.Need-returns
 unfolding placesOf added viewStep
 returns c = c .add .ensures ∙ operand-stored (viewStep (c .before .before .before .before .before .before .before .before .args .s)) _ (c .before .before .before .before .before .before .before .before .pre .0) (c .before .before .before .before .before .before .if1 .taken) (c .before .before .before .before .if2 .taken) (c .before .before .if3 .taken)
 
+carried-requires : tie.Need-carried-requires
+carried-requires c κs = search needs
+
 returns-2 : tie.Need-returns-2
 unfolding placesOf viewStep
-returns-2 c = operand-lost (viewStep (c .before .before .before .before .before .before .args .s)) _ (c .before .before .before .before .before .before .pre .0) (c .before .before .before .before .if1 .taken) (inr (c .if3 .left))
+returns-2 c = c .carried .ensures ∙ operand-lost (viewStep (c .before .before .before .before .before .before .before .args .s)) _ (c .before .before .before .before .before .before .before .pre .0) (c .before .before .before .before .before .if1 .taken) (inr (c .before .if3 .left))
+
+carried-requires-2 : tie.Need-carried-requires-2
+carried-requires-2 c κs = search needs
 
 returns-3 : tie.Need-returns-3
 unfolding placesOf viewStep
-returns-3 c = operand-lost (viewStep (c .before .before .before .before .args .s)) _ (c .before .before .before .before .pre .0) (c .before .before .if1 .taken) (inl (c .if2 .left))
+returns-3 c = c .carried2 .ensures ∙ operand-lost (viewStep (c .before .before .before .before .before .args .s)) _ (c .before .before .before .before .before .pre .0) (c .before .before .before .if1 .taken) (inl (c .before .if2 .left))
 
 sub-y : tie.Need-sub-y
 sub-y c = search needs
@@ -64,7 +70,9 @@ operand-moves-spec =
     add-add
     add-requires
     returns
+    carried-requires
     returns-2
+    carried-requires-2
     returns-3
     sub-y
     cast-y

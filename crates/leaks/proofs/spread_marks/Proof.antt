@@ -9,7 +9,7 @@ use Rattle.reach.specs.Reach.{countTrue}
 use Rattle.reach.proofs.Laws.{count-le}
 use Rattle.table.specs.Rows.{rowCount}
 use Rattle.locals.specs.Sets.{contains}
-use Rattle.leaks.specs.Leaks.{stepsOf}
+use Rattle.leaks.specs.Within.{stepsOf}
 use Rattle.leaks.proofs.Moves.{within-below}
 use Rattle.leaks.proofs.Laws.{Spreading, steps-at, marks-start, marks-on, marks-rest, marks-tail, marks-queued, marks-next, marks-found, count-less}
 use Rattle.leaks.proofs.spread_marks.Statement.{statement}

@@ -14,7 +14,7 @@ use Rattle.locals.proofs.locals_with.Tie as tie
 
 abbrev Inv-loop : tie.InvT-loop
 Inv-loop table index rows nodes₀ queue₀ p₀ nodes queue p =
-    (p ≤ 128) × (localsWithin index table ≡ passFrom (limited table (localFault table)) index table p) × (length nodes ≡ 8192) × (length queue ≡ 512)
+    (p ≤ 128) × (localsWithin index table ≡ passFrom (λ q p. limited table p (localFault table p)) index table p) × (length nodes ≡ 8192) × (length queue ≡ 512)
 
 abbrev μ-loop : tie.MeasureT-loop
 μ-loop table index rows nodes₀ queue₀ p₀ nodes queue p = 128 - p
@@ -65,7 +65,7 @@ enum-known-verdict c = search needs
 
 returns-2 : tie.Need-returns-2 Inv-loop μ-loop
 unfolding procedureIn
-returns-2 c = sym (c .before .before .before .before .before .before .before .before .before .before .before .before .before .before .loop .inv .1 ∙ pass-refused _ _ _ _ _ _ _ (passes-at (c .before .before .before .before .before .before .before .before .before .before .before .before .before .before .before .before .args .t2) (room (c .before .before .before .before .before .before .before .before .before .before .before .before .before .before)) _ (c .before .before .before .before .before .before .before .before .before .before .before .before .if1 .left) (c .before .before .before .before .before .before .before .before .before .before .before .before .before .loop-test .taken)) (passes-entry (c .before .before .before .before .before .before .before .before .before .before .before .before .before .before .before .before .args .t2) (room (c .before .before .before .before .before .before .before .before .before .before .before .before .before .before)) _ (c .before .before .before .before .before .before .before .before .before .before .before .before .if1 .left)) (on-part _ _ _ _ _ _ (code-is (c .before .before .before .before .before .before .before .before)) (c .before .before .before .before .before .judge-procedure .ensures) ∙ c .before .verdict .given .1))
+returns-2 c = sym (c .before .before .before .before .before .before .before .before .before .before .before .before .before .before .loop .inv .1 ∙ pass-refused _ _ _ _ _ _ _ (passes-at (c .before .before .before .before .before .before .before .before .before .before .before .before .before .before .before .before .args .t2) (room (c .before .before .before .before .before .before .before .before .before .before .before .before .before .before)) _ (c .before .before .before .before .before .before .before .before .before .before .before .before .if1 .left) (c .before .before .before .before .before .before .before .before .before .before .before .before .before .loop-test .taken)) (passes-entry (c .before .before .before .before .before .before .before .before .before .before .before .before .before .before .before .before .args .t2) (room (c .before .before .before .before .before .before .before .before .before .before .before .before .before .before)) _ (c .before .before .before .before .before .before .before .before .before .before .before .before .if1 .left)) (on-part _ _ _ _ _ _ _ (code-is (c .before .before .before .before .before .before .before .before)) (c .before .before .before .before .before .judge-procedure .ensures) ∙ c .before .verdict .given .1))
 
 enum-told : tie.Need-enum-told Inv-loop μ-loop
 enum-told c = search needs
@@ -80,7 +80,7 @@ loop-again : tie.Need-loop-again Inv-loop μ-loop
 unfolding procedureIn
 loop-again c = (
   omega arith,
-  c .before .before .before .before .before .before .before .before .before .before .before .before .before .loop .inv .1 ∙ pass-on _ _ _ _ _ _ (passes-at (c .before .before .before .before .before .before .before .before .before .before .before .before .before .before .before .args .t2) (room (c .before .before .before .before .before .before .before .before .before .before .before .before .before)) _ (c .before .before .before .before .before .before .before .before .before .before .before .if1 .left) (c .before .before .before .before .before .before .before .before .before .before .before .before .loop-test .taken)) (passes-entry (c .before .before .before .before .before .before .before .before .before .before .before .before .before .before .before .args .t2) (room (c .before .before .before .before .before .before .before .before .before .before .before .before .before)) _ (c .before .before .before .before .before .before .before .before .before .before .before .if1 .left)) (on-part _ _ _ _ _ _ (code-is (c .before .before .before .before .before .before .before)) (c .before .before .before .before .judge-procedure .ensures) ∙ c .enum-told .given .1),
+  c .before .before .before .before .before .before .before .before .before .before .before .before .before .loop .inv .1 ∙ pass-on _ _ _ _ _ _ (passes-at (c .before .before .before .before .before .before .before .before .before .before .before .before .before .before .before .args .t2) (room (c .before .before .before .before .before .before .before .before .before .before .before .before .before)) _ (c .before .before .before .before .before .before .before .before .before .before .before .if1 .left) (c .before .before .before .before .before .before .before .before .before .before .before .before .loop-test .taken)) (passes-entry (c .before .before .before .before .before .before .before .before .before .before .before .before .before .before .before .args .t2) (room (c .before .before .before .before .before .before .before .before .before .before .before .before .before)) _ (c .before .before .before .before .before .before .before .before .before .before .before .if1 .left)) (on-part _ _ _ _ _ _ _ (code-is (c .before .before .before .before .before .before .before)) (c .before .before .before .before .judge-procedure .ensures) ∙ c .enum-told .given .1),
   c .before .before .before .before .judge-procedure .kept .1 .1 .0 ∙ c .before .before .before .before .before .before .before .before .before .before .before .before .before .loop .inv .2,
   c .before .before .before .before .judge-procedure .kept .1 .1 .1 .0 ∙ c .before .before .before .before .before .before .before .before .before .before .before .before .before .loop .inv .3,
 )

@@ -5,12 +5,6 @@ use Rattle.names.specs.Names.{noSuchType}
 use Rattle.names.proofs.bad_declared.Statement.{statement}
 use Rattle.names.proofs.bad_declared.Tie as tie
 
-has-type-requires : tie.Need-has-type-requires
-has-type-requires c κs = search needs
-
-cast-result : tie.Need-cast-result
-cast-result c = search needs
-
 returns : tie.Need-returns
 unfolding noSuchType
 returns c = rw (eq-eqb _ _ (c .before .before .before .if1 .taken), sym (c .before .before .has-type .ensures) ∙ c .before .if2 .taken)
@@ -18,12 +12,6 @@ returns c = rw (eq-eqb _ _ (c .before .before .before .if1 .taken), sym (c .befo
 returns-2 : tie.Need-returns-2
 unfolding noSuchType
 returns-2 c = rw (eq-eqb _ _ (c .before .before .if1 .taken), sym (c .before .has-type .ensures) ∙ c .if2 .left)
-
-has-type-requires-2 : tie.Need-has-type-requires-2
-has-type-requires-2 c κs = search needs
-
-cast-result-2 : tie.Need-cast-result-2
-cast-result-2 c = search needs
 
 returns-3 : tie.Need-returns-3
 unfolding noSuchType
@@ -38,15 +26,4 @@ unfolding noSuchType
 returns-5 c = rw (ne-eqb _ _ (c .before .before .if1 .left), ne-eqb _ _ (c .if3 .left))
 
 pub bad-declared-spec : {M : Type 1} → statement M
-bad-declared-spec =
-    tie.close
-    (tie.spec
-    has-type-requires
-    cast-result
-    returns
-    returns-2
-    has-type-requires-2
-    cast-result-2
-    returns-3
-    returns-4
-    returns-5)
+bad-declared-spec = tie.close (tie.spec (λ c κs. search needs) (λ c. search needs) returns returns-2 (λ c κs. search needs) (λ c. search needs) returns-3 returns-4 returns-5)

@@ -8,15 +8,6 @@ returns : tie.Need-returns
 unfolding badEnd
 returns c = rw (le-leb _ _ (c .if1 .taken))
 
-sub-row-at : tie.Need-sub-row-at
-sub-row-at c = search needs
-
-cast-row-at : tie.Need-cast-row-at
-cast-row-at c = search needs
-
-row-at-requires : tie.Need-row-at-requires
-row-at-requires c κs = search needs
-
 returns-2 : tie.Need-returns-2
 unfolding badEnd
 returns-2 c = rw (lt-leb _ _ (c .before .before .before .before .if1 .left), ← c .before .before .row-at .ensures, eq-eqb _ _ (c .if2 .taken))
@@ -26,5 +17,4 @@ unfolding badEnd
 returns-3 c = rw (lt-leb _ _ (c .before .before .before .before .before .if1 .left), ← c .before .before .before .row-at .ensures, ne-eqb _ _ (c .before .if2 .left))
 
 pub bad-end-spec : {M : Type 1} → statement M
-bad-end-spec =
-    tie.close (tie.spec returns sub-row-at cast-row-at row-at-requires returns-2 returns-3)
+bad-end-spec = tie.close (tie.spec returns (λ c. search needs) (λ c. search needs) (λ c κs. search needs) returns-2 returns-3)

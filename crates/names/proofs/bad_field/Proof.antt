@@ -6,12 +6,6 @@ use Rattle.names.proofs.Laws.{leb-minus}
 use Rattle.names.proofs.bad_field.Statement.{statement}
 use Rattle.names.proofs.bad_field.Tie as tie
 
-cast-result : tie.Need-cast-result
-cast-result c = search needs
-
-add-result : tie.Need-add-result
-add-result c = search needs
-
 returns : tie.Need-returns
 unfolding notLower
 returns c = rw (eq-eqb _ _ (c .before .before .before .if1 .taken), eq-eqb _ _ (c .before .if2 .taken), leb-minus (c .before .before .before .before .before .args .y) 1, add-comm 1)
@@ -25,4 +19,4 @@ unfolding notLower
 returns-3 c = rw (ne-eqb _ _ (c .if1 .left))
 
 pub bad-field-spec : {M : Type 1} → statement M
-bad-field-spec = tie.close (tie.spec cast-result add-result returns returns-2 returns-3)
+bad-field-spec = tie.close (tie.spec (λ c. search needs) (λ c. search needs) returns returns-2 returns-3)

@@ -4,9 +4,6 @@ use Rattle.names.specs.Names.{noSuchName}
 use Rattle.names.proofs.bad_name.Statement.{statement}
 use Rattle.names.proofs.bad_name.Tie as tie
 
-bad-operand-requires : tie.Need-bad-operand-requires
-bad-operand-requires c κs = search needs
-
 returns : tie.Need-returns
 unfolding noSuchName
 returns c = rw (eq-eqb _ _ (c .before .if1 .taken)) (c .bad-operand .ensures)
@@ -16,4 +13,4 @@ unfolding noSuchName
 returns-2 c = rw (ne-eqb _ _ (c .if1 .left))
 
 pub bad-name-spec : {M : Type 1} → statement M
-bad-name-spec = tie.close (tie.spec bad-operand-requires returns returns-2)
+bad-name-spec = tie.close (tie.spec (λ c κs. search needs) returns returns-2)

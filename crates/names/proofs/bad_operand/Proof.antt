@@ -12,18 +12,6 @@ returns : tie.Need-returns
 unfolding names tabulate missing
 returns c = rw (named-alike 0 2 nothing refl (c .before .args .opcode) (omega arith) (omega arith))
 
-cast-result : tie.Need-cast-result
-cast-result c = search needs
-
-cast-result-2 : tie.Need-cast-result-2
-cast-result-2 c = search needs
-
-add-result : tie.Need-add-result
-add-result c = search needs
-
-add-result-2 : tie.Need-add-result-2
-add-result-2 c = search needs
-
 returns-2 : tie.Need-returns-2
 unfolding names tabulate missing localCount
 returns-2 c = rw (named-alike 2 4 localNumber refl (c .before .before .before .before .args .opcode) (omega arith) (omega arith), leb-minus)
@@ -31,9 +19,6 @@ returns-2 c = rw (named-alike 2 4 localNumber refl (c .before .before .before .b
 returns-3 : tie.Need-returns-3
 unfolding names tabulate missing
 returns-3 c = rw (named-alike 6 2 nothing refl (c .before .before .before .args .opcode) (omega arith) (omega arith))
-
-bad-field-number-requires : tie.Need-bad-field-number-requires
-bad-field-number-requires c κs = search needs
 
 returns-4 : tie.Need-returns-4
 unfolding names tabulate missing
@@ -51,15 +36,6 @@ returns-7 : tie.Need-returns-7
 unfolding names tabulate missing
 returns-7 c = rw (named-alike 16 1 nothing refl (c .before .before .before .before .before .before .before .args .opcode) (omega arith) (omega arith))
 
-cast-result-3 : tie.Need-cast-result-3
-cast-result-3 c = search needs
-
-cast-result-4 : tie.Need-cast-result-4
-cast-result-4 c = search needs
-
-add-result-3 : tie.Need-add-result-3
-add-result-3 c = search needs
-
 returns-8 : tie.Need-returns-8
 unfolding names tabulate missing codeLength
 returns-8 c = rw (named-alike 17 2 target refl (c .before .before .before .before .before .before .before .before .before .before .args .opcode) (omega arith) (omega arith), leb-minus)
@@ -69,23 +45,4 @@ unfolding names tabulate missing
 returns-9 c = rw (named-alike 19 237 nothing refl (c .before .before .before .before .before .before .before .before .args .opcode) (omega arith) (omega arith))
 
 pub bad-operand-spec : {M : Type 1} → statement M
-bad-operand-spec =
-    tie.close
-    (tie.spec
-    returns
-    cast-result
-    cast-result-2
-    add-result
-    add-result-2
-    returns-2
-    returns-3
-    bad-field-number-requires
-    returns-4
-    returns-5
-    returns-6
-    returns-7
-    cast-result-3
-    cast-result-4
-    add-result-3
-    returns-8
-    returns-9)
+bad-operand-spec = tie.close (tie.spec returns (λ c. search needs) (λ c. search needs) (λ c. search needs) (λ c. search needs) returns-2 returns-3 (λ c κs. search needs) returns-4 returns-5 returns-6 returns-7 (λ c. search needs) (λ c. search needs) (λ c. search needs) returns-8 returns-9)

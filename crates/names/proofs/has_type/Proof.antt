@@ -1,15 +1,17 @@
+use mathlib.Core.Bool.{or-false}
 use borrow.Author.Tests.{eq-eqb, ne-eqb}
-use Rattle.names.specs.Names.{hasType}
+use Rattle.laws.specs.Lists.{member}
+use Rattle.table.specs.Flags.{hasType}
 use Rattle.names.proofs.has_type.Statement.{statement}
 use Rattle.names.proofs.has_type.Tie as tie
 
 returns : tie.Need-returns
-unfolding hasType
+unfolding hasType member
 returns c = rw (eq-eqb _ _ (c .if1 .taken))
 
 returns-2 : tie.Need-returns-2
-unfolding hasType
-returns-2 c = rw (ne-eqb _ _ (c .if1 .left))
+unfolding hasType member
+returns-2 c = rw (ne-eqb _ _ (c .if1 .left), or-false)
 
 pub has-type-spec : {M : Type 1} → statement M
 has-type-spec = tie.close (tie.spec returns returns-2)

@@ -29,33 +29,9 @@ Inv-loop table index n own₀ y₀ p₀ i₀ own y p i =
 abbrev μ-loop : tie.MeasureT-loop
 μ-loop table index n own₀ y₀ p₀ i₀ own y p i = n - i
 
-element-copy-out-own : tie.Need-element-copy-out-own Inv-loop μ-loop
-element-copy-out-own c = omega arith
-
 loop-holds : tie.Need-loop-holds Inv-loop μ-loop
 unfolding procedureIn namesWith count hits
 loop-holds c = (omega arith, refl, refl, refl, whole Accepted Refused _ _)
-
-row-at-requires : tie.Need-row-at-requires Inv-loop μ-loop
-row-at-requires c κs = search needs
-
-cast-at : tie.Need-cast-at Inv-loop μ-loop
-cast-at c = search needs
-
-mul-named : tie.Need-mul-named Inv-loop μ-loop
-mul-named c = omega arith
-
-element-copy-out-named : tie.Need-element-copy-out-named Inv-loop μ-loop
-element-copy-out-named c = omega arith
-
-mul-starts : tie.Need-mul-starts Inv-loop μ-loop
-mul-starts c = omega arith
-
-element-copy-out-starts : tie.Need-element-copy-out-starts Inv-loop μ-loop
-element-copy-out-starts c = omega arith
-
-name-fault-requires : tie.Need-name-fault-requires Inv-loop μ-loop
-name-fault-requires c κs = search needs
 
 -- what the row names, the procedure that starts at it, and its fault
 named-is : (c : tie.Joined1 Inv-loop μ-loop) → c .if1 .named ≡ typeIn (c .before .before .before .before .before .before .before .args .t2) (c .before .before .row-at .result .b / 8)
@@ -85,15 +61,6 @@ counted-requires c κs = omega (arith, count-few (isKind (c .before .before .bef
 counted-requires-2 : tie.Need-counted-requires-2 Inv-loop μ-loop
 counted-requires-2 c κs = omega (arith, count-few (isKind (c .before .before .before .before .before .before .before .before .before .before .before .args .table .now) procedureKind) (c .before .before .before .before .before .before .before .before .loop .i))
 
-next-own-requires : tie.Need-next-own-requires Inv-loop μ-loop
-next-own-requires c κs = search needs
-
-add-i : tie.Need-add-i Inv-loop μ-loop
-add-i c = omega arith
-
-loop-less : tie.Need-loop-less Inv-loop μ-loop
-loop-less c = omega arith
-
 loop-again : tie.Need-loop-again Inv-loop μ-loop
 loop-again c = let e = c .before .before .before .before .before .before .before .before .row-at .ensures in
     let k = c .before .before .before .before .before .before .before .before .before .before .loop .inv in (
@@ -109,25 +76,4 @@ returns-2 c = let e : c .before .loop .i ≡ length (c .before .before .before .
     sym (c .before .loop .inv .4 ∙ rw e (done Accepted Refused _ _))
 
 pub names-with-spec : {M : Type 1} → statement M
-names-with-spec =
-    tie.close
-    (tie.spec
-    Inv-loop
-    μ-loop
-    element-copy-out-own
-    loop-holds
-    row-at-requires
-    cast-at
-    mul-named
-    element-copy-out-named
-    mul-starts
-    element-copy-out-starts
-    name-fault-requires
-    returns
-    counted-requires
-    counted-requires-2
-    next-own-requires
-    add-i
-    loop-less
-    loop-again
-    returns-2)
+names-with-spec = tie.close (tie.spec Inv-loop μ-loop (λ c. omega arith) loop-holds (λ c κs. search needs) (λ c. search needs) (λ c. omega arith) (λ c. omega arith) (λ c. omega arith) (λ c. omega arith) (λ c κs. search needs) returns counted-requires counted-requires-2 (λ c κs. search needs) (λ c. omega arith) (λ c. omega arith) loop-again returns-2)

@@ -10,7 +10,7 @@ use Rattle.operands.proofs.operands_with.Statement.{statement}
 use Rattle.operands.proofs.operands_with.Tie as tie
 
 abbrev Inv-loop : tie.InvT-loop
-Inv-loop table index rows p₀ p = (p ≤ 128) × (operandsWith index table ≡ passFrom (codeFault table index) index table p)
+Inv-loop table index rows p₀ p = (p ≤ 128) × (operandsWith index table ≡ passFrom (λ q. codeFault table index) index table p)
 
 abbrev μ-loop : tie.MeasureT-loop
 μ-loop table index rows p₀ p = 128 - p
@@ -36,11 +36,11 @@ judge-procedure-requires c κs = code-is c
 
 returns-2 : tie.Need-returns-2 Inv-loop μ-loop
 unfolding procedureIn
-returns-2 c = sym (c .before .before .before .before .before .before .before .before .before .before .loop .inv .1 ∙ pass-refused _ _ _ _ _ _ _ (passes-at (c .before .before .before .before .before .before .before .before .before .before .before .before .args .t2) (room (c .before .before .before .before .before .before .before .before .before .before)) _ (c .before .before .before .before .before .before .before .before .if1 .left) (c .before .before .before .before .before .before .before .before .before .loop-test .taken)) (passes-entry (c .before .before .before .before .before .before .before .before .before .before .before .before .args .t2) (room (c .before .before .before .before .before .before .before .before .before .before)) _ (c .before .before .before .before .before .before .before .before .if1 .left)) (on-part _ _ _ _ _ _ (code-is (c .before .before .before .before)) (c .before .before .before .judge-procedure .ensures) ∙ c .before .verdict .given .1))
+returns-2 c = sym (c .before .before .before .before .before .before .before .before .before .before .loop .inv .1 ∙ pass-refused _ _ _ _ _ _ _ (passes-at (c .before .before .before .before .before .before .before .before .before .before .before .before .args .t2) (room (c .before .before .before .before .before .before .before .before .before .before)) _ (c .before .before .before .before .before .before .before .before .if1 .left) (c .before .before .before .before .before .before .before .before .before .loop-test .taken)) (passes-entry (c .before .before .before .before .before .before .before .before .before .before .before .before .args .t2) (room (c .before .before .before .before .before .before .before .before .before .before)) _ (c .before .before .before .before .before .before .before .before .if1 .left)) (on-part _ _ _ _ _ _ _ (code-is (c .before .before .before .before)) (c .before .before .before .judge-procedure .ensures) ∙ c .before .verdict .given .1))
 
 loop-again : tie.Need-loop-again Inv-loop μ-loop
 unfolding procedureIn
-loop-again c = (omega arith, c .before .before .before .before .before .before .before .before .before .loop .inv .1 ∙ pass-on _ _ _ _ _ _ (passes-at (c .before .before .before .before .before .before .before .before .before .before .before .args .t2) (room (c .before .before .before .before .before .before .before .before .before)) _ (c .before .before .before .before .before .before .before .if1 .left) (c .before .before .before .before .before .before .before .before .loop-test .taken)) (passes-entry (c .before .before .before .before .before .before .before .before .before .before .before .args .t2) (room (c .before .before .before .before .before .before .before .before .before)) _ (c .before .before .before .before .before .before .before .if1 .left)) (on-part _ _ _ _ _ _ (code-is (c .before .before .before)) (c .before .before .judge-procedure .ensures) ∙ c .enum-told .given .1))
+loop-again c = (omega arith, c .before .before .before .before .before .before .before .before .before .loop .inv .1 ∙ pass-on _ _ _ _ _ _ (passes-at (c .before .before .before .before .before .before .before .before .before .before .before .args .t2) (room (c .before .before .before .before .before .before .before .before .before)) _ (c .before .before .before .before .before .before .before .if1 .left) (c .before .before .before .before .before .before .before .before .loop-test .taken)) (passes-entry (c .before .before .before .before .before .before .before .before .before .before .before .args .t2) (room (c .before .before .before .before .before .before .before .before .before)) _ (c .before .before .before .before .before .before .before .if1 .left)) (on-part _ _ _ _ _ _ _ (code-is (c .before .before .before)) (c .before .before .judge-procedure .ensures) ∙ c .enum-told .given .1))
 
 returns-3 : tie.Need-returns-3 Inv-loop μ-loop
 returns-3 c = sym (c .before .loop .inv .1 ∙ pass-end _ _ _ _ (passes-all (c .before .before .before .args .t2) (room (c .before)) _ (c .loop-test .left)))

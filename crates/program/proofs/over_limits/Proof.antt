@@ -5,26 +5,13 @@ use Rattle.program.specs.Limits.{overLimits}
 use Rattle.program.proofs.over_limits.Statement.{statement}
 use Rattle.program.proofs.over_limits.Tie as tie
 
-local-count-requires : tie.Need-local-count-requires
-local-count-requires c κs = search needs
-
 returns : tie.Need-returns
 unfolding overLimits
 returns c = rw (← c .before .local-count .ensures, lt-ltb _ _ (c .if1 .taken))
-
-cast-part : tie.Need-cast-part
-cast-part c = search needs
-
-cast-part-2 : tie.Need-cast-part-2
-cast-part-2 c = search needs
-
-part-requires : tie.Need-part-requires
-part-requires c κs = search needs
 
 returns-2 : tie.Need-returns-2
 unfolding overLimits codeOf
 returns-2 c = rw (← c .before .before .before .before .local-count .ensures, le-ltb _ _ (c .before .before .before .if1 .left), ← c .part .ensures .0)
 
 pub over-limits-spec : {M : Type 1} → statement M
-over-limits-spec =
-    tie.close (tie.spec local-count-requires returns cast-part cast-part-2 part-requires returns-2)
+over-limits-spec = tie.close (tie.spec (λ c κs. search needs) returns (λ c. search needs) (λ c. search needs) (λ c κs. search needs) returns-2)

@@ -16,30 +16,12 @@ Inv-loop table end i₀ i = find (λ (j : ℕ). not (isParameter table j)) i₀ 
 abbrev μ-loop : tie.MeasureT-loop
 μ-loop table end i₀ i = end - i
 
-cast-end : tie.Need-cast-end Inv-loop μ-loop
-cast-end c = search needs
-
-cast-i : tie.Need-cast-i Inv-loop μ-loop
-cast-i c = search needs
-
-add-i : tie.Need-add-i Inv-loop μ-loop
-add-i c = search needs
-
 loop-holds : tie.Need-loop-holds Inv-loop μ-loop
 loop-holds c = refl
-
-row-at-requires : tie.Need-row-at-requires Inv-loop μ-loop
-row-at-requires c κs = search needs
 
 returns : tie.Need-returns Inv-loop μ-loop
 unfolding parametersEnd
 returns c = sym (c .before .before .before .before .loop .inv ∙ find-here _ _ _ (omega arith) (parameter-no _ _ _ (c .before .before .row-at .ensures) (c .if1 .taken)))
-
-add-i-2 : tie.Need-add-i-2 Inv-loop μ-loop
-add-i-2 c = omega arith
-
-loop-less : tie.Need-loop-less Inv-loop μ-loop
-loop-less c = omega arith
 
 loop-again : tie.Need-loop-again Inv-loop μ-loop
 loop-again c = c .before .before .before .before .loop .inv ∙ find-next _ _ _ (omega arith) (parameter-yes _ _ _ (c .before .before .row-at .ensures) (c .if1 .left))
@@ -49,18 +31,4 @@ unfolding parametersEnd
 returns-2 c = sym (c .before .loop .inv ∙ find-past _ _ _ (c .loop-test .left))
 
 pub parameters-end-spec : {M : Type 1} → statement M
-parameters-end-spec =
-    tie.close
-    (tie.spec
-    Inv-loop
-    μ-loop
-    cast-end
-    cast-i
-    add-i
-    loop-holds
-    row-at-requires
-    returns
-    add-i-2
-    loop-less
-    loop-again
-    returns-2)
+parameters-end-spec = tie.close (tie.spec Inv-loop μ-loop (λ c. search needs) (λ c. search needs) (λ c. search needs) loop-holds (λ c κs. search needs) returns (λ c. omega arith) (λ c. omega arith) loop-again returns-2)

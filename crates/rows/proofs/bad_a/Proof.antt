@@ -6,9 +6,6 @@ use borrow.Author.Needs.{needs}
 use Rattle.rows.proofs.bad_a.Statement.{statement}
 use Rattle.rows.proofs.bad_a.Tie as tie
 
-values-of-requires : tie.Need-values-of-requires
-values-of-requires c κs = search needs
-
 returns : tie.Need-returns
 unfolding usesA
 returns c = rw (sym (c .before .values-of .ensures) ∙ c .if1 .taken)
@@ -18,4 +15,4 @@ unfolding usesA
 returns-2 c = rw (← c .before .before .values-of .ensures, lt-ltb 0 (c .before .before .values-of .result) (omega arith))
 
 pub bad-a-spec : {M : Type 1} → statement M
-bad-a-spec = tie.close (tie.spec values-of-requires returns returns-2)
+bad-a-spec = tie.close (tie.spec (λ c κs. search needs) returns returns-2)

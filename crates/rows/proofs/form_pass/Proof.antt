@@ -6,18 +6,6 @@ use borrow.Author.Needs.{needs}
 use Rattle.rows.proofs.form_pass.Statement.{statement}
 use Rattle.rows.proofs.form_pass.Tie as tie
 
-length-pass-requires : tie.Need-length-pass-requires
-length-pass-requires c κs = search needs
-
-enum-told : tie.Need-enum-told
-enum-told c = search needs
-
-rows-pass-requires : tie.Need-rows-pass-requires
-rows-pass-requires c κs = search needs
-
-enum-known-length : tie.Need-enum-known-length
-enum-known-length c = search needs
-
 returns : tie.Need-returns
 unfolding formOf
 returns c = c .rows-pass .ensures ∙ ap (λ (v : Verdict). andThen v (rowsOf (c .before .before .before .before .before .args .table .now))) (sym (c .before .enum-told .given .1) ∙ c .before .before .before .length-pass .ensures)
@@ -27,12 +15,4 @@ unfolding formOf
 returns-2 c = ap (λ (v : Verdict). andThen v (rowsOf (c .before .before .before .before .before .args .table .now))) (sym (c .before .length .given .1) ∙ c .before .before .before .length-pass .ensures)
 
 pub form-pass-spec : {M : Type 1} → statement M
-form-pass-spec =
-    tie.close
-    (tie.spec
-    length-pass-requires
-    enum-told
-    rows-pass-requires
-    enum-known-length
-    returns
-    returns-2)
+form-pass-spec = tie.close (tie.spec (λ c κs. search needs) (λ c. search needs) (λ c κs. search needs) (λ c. search needs) returns returns-2)

@@ -12,9 +12,6 @@ returns-2 : tie.Need-returns-2
 unfolding lengthOf
 returns-2 c = rw (ne-eqb _ _ (c .before .if1 .left), ne-eqb _ _ (c .if2 .taken))
 
-mul-if3 : tie.Need-mul-if3
-mul-if3 c = search needs
-
 returns-3 : tie.Need-returns-3
 unfolding lengthOf
 returns-3 c = rw (ne-eqb _ _ (c .before .before .if1 .left), eq-eqb _ _ (c .before .if2 .left), lt-ltb _ _ (c .if3 .taken))
@@ -24,4 +21,4 @@ unfolding lengthOf
 returns-4 c = rw (ne-eqb _ _ (c .before .before .if1 .left), eq-eqb _ _ (c .before .if2 .left), le-ltb _ _ (c .if3 .left))
 
 pub length-pass-spec : {M : Type 1} → statement M
-length-pass-spec = tie.close (tie.spec returns returns-2 mul-if3 returns-3 returns-4)
+length-pass-spec = tie.close (tie.spec returns returns-2 (λ c. search needs) returns-3 returns-4)

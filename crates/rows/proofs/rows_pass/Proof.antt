@@ -21,12 +21,6 @@ loop-holds : tie.Need-loop-holds Inv-loop μ-loop
 unfolding rowsOf aboveAt
 loop-holds c = (omega arith, refl, whole Accepted Refused _ _)
 
-row-at-requires : tie.Need-row-at-requires Inv-loop μ-loop
-row-at-requires c κs = search needs
-
-row-fault-requires : tie.Need-row-fault-requires Inv-loop μ-loop
-row-fault-requires c κs = search needs
-
 returns : tie.Need-returns Inv-loop μ-loop
 unfolding faultAt
 returns c = let z : faultAt (c .before .before .before .before .before .before .args .table .now) (c .before .before .before .before .loop .i) ≡ c .before .row-fault .result = cc in
@@ -34,12 +28,6 @@ returns c = let z : faultAt (c .before .before .before .before .before .before .
 
 below-requires : tie.Need-below-requires Inv-loop μ-loop
 below-requires c κs = fits-below _ _ (sym (c .before .row-fault .ensures) ∙ c .if1 .left)
-
-add-i : tie.Need-add-i Inv-loop μ-loop
-add-i c = omega arith
-
-loop-less : tie.Need-loop-less Inv-loop μ-loop
-loop-less c = omega arith
 
 loop-again : tie.Need-loop-again Inv-loop μ-loop
 unfolding faultAt aboveAt
@@ -52,17 +40,4 @@ returns-2 c = let e : c .before .loop .i ≡ length (c .before .before .before .
     sym (c .before .loop .inv .2 ∙ rw e (done Accepted Refused _ _))
 
 pub rows-pass-spec : {M : Type 1} → statement M
-rows-pass-spec =
-    tie.close
-    (tie.spec
-    Inv-loop
-    μ-loop
-    loop-holds
-    row-at-requires
-    row-fault-requires
-    returns
-    below-requires
-    add-i
-    loop-less
-    loop-again
-    returns-2)
+rows-pass-spec = tie.close (tie.spec Inv-loop μ-loop loop-holds (λ c κs. search needs) (λ c κs. search needs) returns below-requires (λ c. omega arith) (λ c. omega arith) loop-again returns-2)

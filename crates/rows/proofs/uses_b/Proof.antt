@@ -6,15 +6,6 @@ use borrow.Author.Needs.{needs}
 use Rattle.rows.proofs.uses_b.Statement.{statement}
 use Rattle.rows.proofs.uses_b.Tie as tie
 
-has-type-requires : tie.Need-has-type-requires
-has-type-requires c κs = search needs
-
-has-type-requires-2 : tie.Need-has-type-requires-2
-has-type-requires-2 c κs = search needs
-
-has-operand-requires : tie.Need-has-operand-requires
-has-operand-requires c κs = search needs
-
 returns : tie.Need-returns
 unfolding usesB uses
 returns c = rw (c .before .match .keys1) (sym (field-type _ (omega arith)))
@@ -36,14 +27,4 @@ unfolding usesB
 returns-5 c = sym (never _ _ _ (no-b _ (c .match .rest .0 .0 .0 .1) (c .match .rest .0 .0 .1) (c .match .rest .0 .1) (c .match .rest .1)))
 
 pub uses-b-spec : {M : Type 1} → statement M
-uses-b-spec =
-    tie.close
-    (tie.spec
-    has-type-requires
-    has-type-requires-2
-    has-operand-requires
-    returns
-    returns-2
-    returns-3
-    returns-4
-    returns-5)
+uses-b-spec = tie.close (tie.spec (λ c κs. search needs) (λ c κs. search needs) (λ c κs. search needs) returns returns-2 returns-3 returns-4 returns-5)

@@ -9,11 +9,8 @@ use Rattle.rows.proofs.values_of.Tie as tie
 returns : tie.Need-returns
 returns c = sym (ap (λ (u : Use). u .values) (no-use _ (c .if1 .taken)))
 
-array-read-result : tie.Need-array-read-result
-array-read-result c = search needs
-
 returns-2 : tie.Need-returns-2
 returns-2 c = sym (value-count _ (omega arith))
 
 pub values-of-spec : {M : Type 1} → statement M
-values-of-spec = tie.close (tie.spec returns array-read-result returns-2)
+values-of-spec = tie.close (tie.spec returns (λ c. search needs) returns-2)

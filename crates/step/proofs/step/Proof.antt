@@ -2,7 +2,8 @@ use Rattle.step.specs.Step.{turns, turnOf}
 use Rattle.step.proofs.Paths.{past-all}
 use borrow.Author.Needs.{needs}
 use mathlib.Core.Path.{sym}
-use Rattle.state.proofs.Coding.{above}
+use Rattle.laws.proofs.Cases.{above}
+use Rattle.table.specs.Format.{pastOpcodes}
 use Rattle.step.proofs.step.Statement.{statement}
 use Rattle.step.proofs.step.Tie as tie
 
@@ -88,7 +89,7 @@ returns-20 c = rw (c .before .before .before .before .match .keys20) (c .before 
 
 returns-21 : tie.Need-returns-21
 unfolding turnOf
-returns-21 c = rw (c .stopped .ensures) (sym (past-all _ _ _ _ _ _ _ _ _ _ _ (above 20 _ (c .before .match .rest))))
+returns-21 c = rw (c .stopped .ensures) (sym (past-all _ _ _ _ _ _ _ _ _ _ _ (above pastOpcodes _ (c .before .match .rest))))
 
 pub step-spec : {M : Type 1} → statement M
 step-spec = tie.close (tie.spec (λ c κs. search needs) (λ c κs. search needs) (λ c κs. search needs) (λ c κs. search needs) (λ c κs. search needs) (λ c κs. search needs) (λ c κs. search needs) (λ c κs. search needs) (λ c κs. search needs) (λ c κs. search needs) (λ c κs. search needs) (λ c κs. search needs) (λ c κs. search needs) (λ c κs. search needs) (λ c κs. search needs) (λ c κs. search needs) (λ c κs. search needs) (λ c κs. search needs) (λ c κs. search needs) (λ c κs. search needs) (λ c κs. search needs) returns (λ c. search needs) returns-2 (λ c. search needs) returns-3 (λ c. search needs) returns-4 (λ c. search needs) returns-5 (λ c. search needs) returns-6 (λ c. search needs) returns-7 (λ c. search needs) returns-8 (λ c. search needs) returns-9 (λ c. search needs) returns-10 (λ c. search needs) returns-11 (λ c. search needs) returns-12 (λ c. search needs) returns-13 (λ c. search needs) returns-14 (λ c. search needs) returns-15 (λ c. search needs) returns-16 (λ c. search needs) returns-17 returns-18 (λ c. search needs) returns-19 (λ c. search needs) returns-20 returns-21)

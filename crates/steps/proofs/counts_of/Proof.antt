@@ -1,26 +1,12 @@
 use mathlib.Core.Path.{refl, sym, _∙_}
 use borrow.Author.Needs.{needs}
 use Rattle.program.specs.Program.{fieldKinds, parameterKinds, resultKinds}
-use Rattle.kinds.proofs.Laws.{above}
+use Rattle.laws.proofs.Cases.{above}
+use Rattle.table.specs.Format.{pastOpcodes}
 use Rattle.kinds.specs.Effects.{effects}
 use Rattle.steps.proofs.Laws.{length-kinds, listed, unlisted}
 use Rattle.steps.proofs.counts_of.Statement.{statement}
 use Rattle.steps.proofs.counts_of.Tie as tie
-
-fields-of-requires : tie.Need-fields-of-requires
-fields-of-requires c κs = search needs
-
-fields-of-requires-2 : tie.Need-fields-of-requires-2
-fields-of-requires-2 c κs = search needs
-
-parameters-of-requires : tie.Need-parameters-of-requires
-parameters-of-requires c κs = search needs
-
-results-of-requires : tie.Need-results-of-requires
-results-of-requires c κs = search needs
-
-results-of-requires-2 : tie.Need-results-of-requires-2
-results-of-requires-2 c κs = search needs
 
 returns : tie.Need-returns
 unfolding effects
@@ -103,35 +89,7 @@ unfolding effects
 returns-20 c = listed _ _ _ _ _ 19 (c .match .keys20) refl refl
 
 returns-21 : tie.Need-returns-21
-returns-21 c = unlisted _ _ _ _ _ (above 20 _ (c .match .rest))
+returns-21 c = unlisted _ _ _ _ _ (above pastOpcodes _ (c .match .rest))
 
 pub counts-of-spec : {M : Type 1} → statement M
-counts-of-spec =
-    tie.close
-    (tie.spec
-    fields-of-requires
-    fields-of-requires-2
-    parameters-of-requires
-    results-of-requires
-    results-of-requires-2
-    returns
-    returns-2
-    returns-3
-    returns-4
-    returns-5
-    returns-6
-    returns-7
-    returns-8
-    returns-9
-    returns-10
-    returns-11
-    returns-12
-    returns-13
-    returns-14
-    returns-15
-    returns-16
-    returns-17
-    returns-18
-    returns-19
-    returns-20
-    returns-21)
+counts-of-spec = tie.close (tie.spec (λ c κs. search needs) (λ c κs. search needs) (λ c κs. search needs) (λ c κs. search needs) (λ c κs. search needs) returns returns-2 returns-3 returns-4 returns-5 returns-6 returns-7 returns-8 returns-9 returns-10 returns-11 returns-12 returns-13 returns-14 returns-15 returns-16 returns-17 returns-18 returns-19 returns-20 returns-21)

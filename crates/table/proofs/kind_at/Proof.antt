@@ -5,12 +5,6 @@ use Rattle.table.proofs.Laws.{kind-inside, kind-outside}
 use Rattle.table.proofs.kind_at.Statement.{statement}
 use Rattle.table.proofs.kind_at.Tie as tie
 
-mul-result : tie.Need-mul-result
-mul-result c = search needs
-
-shared-slice-read-result : tie.Need-shared-slice-read-result
-shared-slice-read-result c = search needs
-
 returns : tie.Need-returns
 returns c = sym (kind-inside _ _ (c .before .if1 .taken))
 
@@ -18,4 +12,4 @@ returns-2 : tie.Need-returns-2
 returns-2 c = sym (kind-outside _ _ (c .if1 .left))
 
 pub kind-at-spec : {M : Type 1} → statement M
-kind-at-spec = tie.close (tie.spec mul-result shared-slice-read-result returns returns-2)
+kind-at-spec = tie.close (tie.spec (λ c. search needs) (λ c. search needs) returns returns-2)

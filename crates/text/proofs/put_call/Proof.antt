@@ -6,23 +6,9 @@ use Rattle.text.proofs.Placing.{puts-more}
 use Rattle.text.proofs.put_call.Statement.{statement}
 use Rattle.text.proofs.put_call.Tie as tie
 
-slice-aggregate-put-word : tie.Need-slice-aggregate-put-word
-slice-aggregate-put-word c = search needs
-
-put-word-requires : tie.Need-put-word-requires
-put-word-requires c κs = search needs
-
-put-number-requires : tie.Need-put-number-requires
-put-number-requires c κs = search needs
-
-same-length : tie.Need-same-length
-same-length c = search needs
-
 returns : tie.Need-returns
 unfolding ascii
 returns c = puts-more _ _ (ascii "call") (spaced (decimal (c .before .before .before .before .before .before .before .before .before .before .args .call))) _ _ (c .before .before .before .before .before .before .put-word .ensures) (c .before .before .put-number .ensures)
 
 pub put-call-spec : {M : Type 1} → statement M
-put-call-spec =
-    tie.close
-    (tie.spec slice-aggregate-put-word put-word-requires put-number-requires same-length returns)
+put-call-spec = tie.close (tie.spec (λ c. search needs) (λ c κs. search needs) (λ c κs. search needs) (λ c. search needs) returns)

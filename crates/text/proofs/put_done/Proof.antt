@@ -9,24 +9,6 @@ use Rattle.text.proofs.Lines.{numbers, done-line}
 use Rattle.text.proofs.put_done.Statement.{statement}
 use Rattle.text.proofs.put_done.Tie as tie
 
-put-call-requires : tie.Need-put-call-requires
-put-call-requires c κs = search needs
-
-slice-aggregate-put-word : tie.Need-slice-aggregate-put-word
-slice-aggregate-put-word c = search needs
-
-put-word-requires : tie.Need-put-word-requires
-put-word-requires c κs = search needs
-
-put-results-requires : tie.Need-put-results-requires
-put-results-requires c κs = search needs
-
-put-byte-requires : tie.Need-put-byte-requires
-put-byte-requires c κs = search needs
-
-same-length : tie.Need-same-length
-same-length c = search needs
-
 returns : tie.Need-returns
 unfolding ascii
 returns c row s =
@@ -41,13 +23,4 @@ returns c row s =
     puts-same _ _ (done-line (a .call) row xs s) p₄
 
 pub put-done-spec : {M : Type 1} → statement M
-put-done-spec =
-    tie.close
-    (tie.spec
-    put-call-requires
-    slice-aggregate-put-word
-    put-word-requires
-    put-results-requires
-    put-byte-requires
-    same-length
-    returns)
+put-done-spec = tie.close (tie.spec (λ c κs. search needs) (λ c. search needs) (λ c κs. search needs) (λ c κs. search needs) (λ c κs. search needs) (λ c. search needs) returns)

@@ -21,28 +21,10 @@ abbrev μ-loop : tie.MeasureT-loop
 loop-holds : tie.Need-loop-holds Inv-loop μ-loop
 loop-holds c = (omega arith, omega arith, search needs, refl, puts-none _ _)
 
-same-length : tie.Need-same-length Inv-loop μ-loop
-same-length c = search needs
-
 returns : tie.Need-returns Inv-loop μ-loop
 returns c =
     let e : c .before .before .loop .i ≡ c .before .before .before .before .args .count = omega arith in
     puts-same _ _ (ap (λ (n : ℕ). numbers (take n (c .before .before .before .before .args .t3))) e) (c .before .before .loop .inv .4)
-
-mul-put-number : tie.Need-mul-put-number Inv-loop μ-loop
-mul-put-number c = search needs
-
-array-read-put-number : tie.Need-array-read-put-number Inv-loop μ-loop
-array-read-put-number c = search needs
-
-put-number-requires : tie.Need-put-number-requires Inv-loop μ-loop
-put-number-requires c κs = search needs
-
-add-i : tie.Need-add-i Inv-loop μ-loop
-add-i c = search needs
-
-loop-less : tie.Need-loop-less Inv-loop μ-loop
-loop-less c = search needs
 
 loop-again : tie.Need-loop-again Inv-loop μ-loop
 loop-again c =
@@ -57,9 +39,6 @@ loop-again c =
       puts-same _ _ (numbers-more results i h) (puts-more _ _ (numbers (take i results)) (spaced (decimal (getD results i 0))) _ _ (inv .4) (c .before .before .put-number .ensures)),
     )
 
-same-length-2 : tie.Need-same-length-2 Inv-loop μ-loop
-same-length-2 c = search needs
-
 returns-2 : tie.Need-returns-2 Inv-loop μ-loop
 returns-2 c =
     let results : List ℕ = c .before .before .before .args .t3 in
@@ -71,19 +50,4 @@ returns-2 c =
     puts-same _ _ (ap numbers (take-all i results h ∙ sym (take-all count results k))) (inv .4)
 
 pub put-results-spec : {M : Type 1} → statement M
-put-results-spec =
-    tie.close
-    (tie.spec
-    Inv-loop
-    μ-loop
-    loop-holds
-    same-length
-    returns
-    mul-put-number
-    array-read-put-number
-    put-number-requires
-    add-i
-    loop-less
-    loop-again
-    same-length-2
-    returns-2)
+put-results-spec = tie.close (tie.spec Inv-loop μ-loop loop-holds (λ c. search needs) returns (λ c. search needs) (λ c. search needs) (λ c κs. search needs) (λ c. search needs) (λ c. search needs) loop-again (λ c. search needs) returns-2)

@@ -8,33 +8,6 @@ use Rattle.text.proofs.Lines.{stop-line}
 use Rattle.text.proofs.put_stop.Statement.{statement}
 use Rattle.text.proofs.put_stop.Tie as tie
 
-put-call-requires : tie.Need-put-call-requires
-put-call-requires c κs = search needs
-
-slice-aggregate-put-word : tie.Need-slice-aggregate-put-word
-slice-aggregate-put-word c = search needs
-
-put-word-requires : tie.Need-put-word-requires
-put-word-requires c κs = search needs
-
-put-number-requires : tie.Need-put-number-requires
-put-number-requires c κs = search needs
-
-slice-aggregate-put-word-2 : tie.Need-slice-aggregate-put-word-2
-slice-aggregate-put-word-2 c = search needs
-
-put-word-requires-2 : tie.Need-put-word-requires-2
-put-word-requires-2 c κs = search needs
-
-put-number-requires-2 : tie.Need-put-number-requires-2
-put-number-requires-2 c κs = search needs
-
-put-byte-requires : tie.Need-put-byte-requires
-put-byte-requires c κs = search needs
-
-same-length : tie.Need-same-length
-same-length c = search needs
-
 returns : tie.Need-returns
 unfolding ascii
 returns c =
@@ -52,16 +25,4 @@ returns c =
     puts-same _ _ (stop-line (a .call) (a .number) (a .row)) p₆
 
 pub put-stop-spec : {M : Type 1} → statement M
-put-stop-spec =
-    tie.close
-    (tie.spec
-    put-call-requires
-    slice-aggregate-put-word
-    put-word-requires
-    put-number-requires
-    slice-aggregate-put-word-2
-    put-word-requires-2
-    put-number-requires-2
-    put-byte-requires
-    same-length
-    returns)
+put-stop-spec = tie.close (tie.spec (λ c κs. search needs) (λ c. search needs) (λ c κs. search needs) (λ c κs. search needs) (λ c. search needs) (λ c κs. search needs) (λ c κs. search needs) (λ c κs. search needs) (λ c. search needs) returns)

@@ -6,21 +6,6 @@ use borrow.Author.Needs.{needs}
 use Rattle.yithrel.proofs.yithrel_judge.Statement.{statement}
 use Rattle.yithrel.proofs.yithrel_judge.Tie as tie
 
-judge-table-requires : tie.Need-judge-table-requires
-judge-table-requires c κs = search needs
-
-number-requires : tie.Need-number-requires
-number-requires c κs = search needs
-
-cast-result : tie.Need-cast-result
-cast-result c = search needs
-
-mul-result : tie.Need-mul-result
-mul-result c = search needs
-
-value-requires : tie.Need-value-requires
-value-requires c κs = search needs
-
 add-result : tie.Need-add-result
 add-result c = let h : c .value .result ≤ 2048 = rw (c .value .ensures, c .before .before .judge-table .ensures) (value-small (c .before .before .before .before .args .table .now)) in omega arith
 
@@ -29,13 +14,4 @@ unfolding answerOf
 returns c = rw (← c .before .before .judge-table .ensures, c .value .ensures, c .before .number .ensures)
 
 pub yithrel-judge-spec : {M : Type 1} → statement M
-yithrel-judge-spec =
-    tie.close
-    (tie.spec
-    judge-table-requires
-    number-requires
-    cast-result
-    mul-result
-    value-requires
-    add-result
-    returns)
+yithrel-judge-spec = tie.close (tie.spec (λ c κs. search needs) (λ c κs. search needs) (λ c. search needs) (λ c. search needs) (λ c κs. search needs) add-result returns)

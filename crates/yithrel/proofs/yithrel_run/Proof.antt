@@ -6,43 +6,15 @@ use borrow.Author.Needs.{needs}
 use Rattle.yithrel.proofs.yithrel_run.Statement.{statement}
 use Rattle.yithrel.proofs.yithrel_run.Tie as tie
 
-run-list-requires : tie.Need-run-list-requires
-run-list-requires c κs = search needs
-
-number-requires : tie.Need-number-requires
-number-requires c κs = search needs
-
-cast-result : tie.Need-cast-result
-cast-result c = search needs
-
-mul-result : tie.Need-mul-result
-mul-result c = search needs
-
-value-requires : tie.Need-value-requires
-value-requires c κs = search needs
-
 add-result : tie.Need-add-result
 add-result c =
     let small = run-small (c .before .before .before .before .before .before .before .before .before .args .table .now) (c .before .before .before .before .before .before .before .before .before .args .list .now) (c .before .before .before .before .before .before .before .before .before .args .text .now) (λ i. omega (arith, c .before .before .before .before .before .before .before .before .shared-slice-known .given i)) (λ i. omega (arith, c .before .before .before .before .before .before .before .shared-slice-known2 .given i)) in
     let h : c .value .result ≤ 65536 = rw (c .value .ensures, c .before .before .before .before .run-list .ensures .0) small in
     omega arith
 
-same-length : tie.Need-same-length
-same-length c = search needs
-
 returns : tie.Need-returns
 unfolding answerOf
 returns c = (rw (← c .before .before .before .before .run-list .ensures .0, c .value .ensures, c .before .number .ensures), c .before .before .before .before .run-list .ensures .1)
 
 pub yithrel-run-spec : {M : Type 1} → statement M
-yithrel-run-spec =
-    tie.close
-    (tie.spec
-    run-list-requires
-    number-requires
-    cast-result
-    mul-result
-    value-requires
-    add-result
-    same-length
-    returns)
+yithrel-run-spec = tie.close (tie.spec (λ c κs. search needs) (λ c κs. search needs) (λ c. search needs) (λ c. search needs) (λ c κs. search needs) add-result (λ c. search needs) returns)

@@ -2,7 +2,9 @@ use mathlib.Core.Path.{_∙_}
 use borrow.Author.Needs.{needs}
 use Rattle.kinds.specs.Kinds.{takenAll, pushedAll}
 use Rattle.kinds.specs.Effects.{effects, applied}
-use Rattle.kinds.proofs.Laws.{listed, unlisted, above}
+use Rattle.laws.proofs.Cases.{above}
+use Rattle.table.specs.Format.{pastOpcodes}
+use Rattle.kinds.proofs.Laws.{listed, unlisted}
 use Rattle.kinds.proofs.Stack.step.Statement.{statement}
 use Rattle.kinds.proofs.Stack.step.Tie as tie
 
@@ -35,4 +37,4 @@ step-spec =
     (λ c. listed _ _ _ _ _ _ 17 (c .match .keys18))
     (λ c. c .branch-cond .ensures ∙ listed _ _ _ _ _ _ 18 (c .before .before .match .keys19))
     (λ c. c .op .ensures ∙ listed _ _ _ _ _ _ 19 (c .before .before .match .keys20))
-    (λ c. c .fail .ensures _ ∙ unlisted _ _ _ _ _ _ (above 20 _ (c .before .match .rest))))
+    (λ c. c .fail .ensures _ ∙ unlisted _ _ _ _ _ _ (above pastOpcodes _ (c .before .match .rest))))

@@ -76,22 +76,4 @@ returns-9 c = let e : getD owned (c .before .args .row .kind) [] ≡ [] = no-kin
     rw (count-kept 1 _ _ (c .match .rest .0 .0 .0 .0 .0 .0 .1) e, count-kept 2 _ _ (c .match .rest .0 .0 .0 .0 .0 .1) e, count-kept 3 _ _ (c .match .rest .0 .0 .0 .0 .1) e, count-kept 4 _ _ (c .match .rest .0 .0 .0 .1) e, count-kept 5 _ _ (c .match .rest .0 .0 .1) e, count-kept 6 _ _ (c .match .rest .0 .1) e, count-kept 7 _ _ (c .match .rest .1) e, ne-eqb _ 1 (c .match .rest .0 .0 .0 .0 .0 .0 .1), ne-eqb _ 4 (c .match .rest .0 .0 .0 .1), ne-eqb _ 5 (c .match .rest .0 .0 .1))
 
 pub below-spec : {M : Type 1} → statement M
-below-spec =
-    tie.close
-    (tie.spec
-    add-self
-    add-self-2
-    add-self-3
-    add-self-4
-    add-self-5
-    add-self-6
-    add-self-7
-    returns
-    returns-2
-    returns-3
-    returns-4
-    returns-5
-    returns-6
-    returns-7
-    returns-8
-    returns-9)
+below-spec = tie.close (tie.spec add-self add-self-2 add-self-3 add-self-4 add-self-5 add-self-6 add-self-7 returns returns-2 returns-3 returns-4 returns-5 returns-6 returns-7 returns-8 returns-9)

@@ -11,23 +11,13 @@ returns : tie.Need-returns
 unfolding misplaced
 returns c = sym (follow-none _ _ (c .if1 .taken))
 
-cast-k : tie.Need-cast-k
-cast-k c = search needs
-
-array-read-if2 : tie.Need-array-read-if2
-array-read-if2 c = search needs
-
 returns-2 : tie.Need-returns-2
 unfolding misplaced
 returns-2 c = sym (follow _ _ (omega arith) (omega arith) ∙ rw (lt-ltb _ _ (c .if2 .taken)))
-
-array-read-result : tie.Need-array-read-result
-array-read-result c = search needs
 
 returns-3 : tie.Need-returns-3
 unfolding misplaced
 returns-3 c = sym (follow _ _ (omega arith) (omega arith) ∙ rw (le-ltb _ _ (c .before .if2 .left)))
 
 pub misplaces-spec : {M : Type 1} → statement M
-misplaces-spec =
-    tie.close (tie.spec returns cast-k array-read-if2 returns-2 array-read-result returns-3)
+misplaces-spec = tie.close (tie.spec returns (λ c. search needs) (λ c. search needs) returns-2 (λ c. search needs) returns-3)

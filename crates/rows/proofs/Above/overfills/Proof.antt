@@ -11,23 +11,9 @@ returns : tie.Need-returns
 unfolding tooMany
 returns c = rw (no-limit _ (c .if1 .taken)) (sym (leb·zero (countOf (c .before .args .self) (c .before .args .row .kind))))
 
-cast-result : tie.Need-cast-result
-cast-result c = search needs
-
-mul-result : tie.Need-mul-result
-mul-result c = search needs
-
-array-read-result : tie.Need-array-read-result
-array-read-result c = search needs
-
-count-of-requires : tie.Need-count-of-requires
-count-of-requires c κs = search needs
-
 returns-2 : tie.Need-returns-2
 unfolding tooMany limits
 returns-2 c = rw (c .count-of .ensures)
 
 pub overfills-spec : {M : Type 1} → statement M
-overfills-spec =
-    tie.close
-    (tie.spec returns cast-result mul-result array-read-result count-of-requires returns-2)
+overfills-spec = tie.close (tie.spec returns (λ c. search needs) (λ c. search needs) (λ c. search needs) (λ c κs. search needs) returns-2)

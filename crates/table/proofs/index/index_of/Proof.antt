@@ -16,32 +16,11 @@ abbrev μ-loop : tie.MeasureT-loop
 μ-loop table n module-rows₀ type-entries₀ procedure-entries₀ modules₀ types₀ procedures₀ i₀ module-rows type-entries procedure-entries modules types procedures i =
     n - i
 
-indexed-rows-requires : tie.Need-indexed-rows-requires Inv-loop μ-loop
-indexed-rows-requires c κs = search needs
-
 loop-holds : tie.Need-loop-holds Inv-loop μ-loop
 loop-holds c = (omega arith, scan-start _)
 
-kind-at-requires : tie.Need-kind-at-requires Inv-loop μ-loop
-kind-at-requires c κs = search needs
-
-cast-module-rows : tie.Need-cast-module-rows Inv-loop μ-loop
-cast-module-rows c = omega arith
-
-mul-module-rows : tie.Need-mul-module-rows Inv-loop μ-loop
-mul-module-rows c = omega arith
-
-array-write-module-rows : tie.Need-array-write-module-rows Inv-loop μ-loop
-array-write-module-rows c = omega arith
-
 add-modules : tie.Need-add-modules Inv-loop μ-loop
 add-modules c = omega (arith, scan-few (c .before .before .before .before .loop .inv .1))
-
-add-i : tie.Need-add-i Inv-loop μ-loop
-add-i c = omega arith
-
-loop-less : tie.Need-loop-less Inv-loop μ-loop
-loop-less c = omega arith
 
 loop-again : tie.Need-loop-again Inv-loop μ-loop
 loop-again c = (
@@ -53,17 +32,8 @@ loop-again c = (
 type-at-requires : tie.Need-type-at-requires Inv-loop μ-loop
 type-at-requires c κs = (c .before .before .before .before .indexed-rows .ensures, omega arith, c .before .before .before .loop .inv .1 .modules .counted)
 
-mul-type-entries : tie.Need-mul-type-entries Inv-loop μ-loop
-mul-type-entries c = omega arith
-
-array-set-from-type-entries : tie.Need-array-set-from-type-entries Inv-loop μ-loop
-array-set-from-type-entries c = omega arith
-
 add-types : tie.Need-add-types Inv-loop μ-loop
 add-types c = omega (arith, scan-few (c .before .before .before .before .before .loop .inv .1))
-
-cast-i : tie.Need-cast-i Inv-loop μ-loop
-cast-i c = omega arith
 
 loop-less-2 : tie.Need-loop-less-2 Inv-loop μ-loop
 loop-less-2 c = omega (arith, type-within _ _ (c .before .before .type-at .ensures) (omega arith))
@@ -78,17 +48,8 @@ loop-again-2 c = (
 procedure-at-requires : tie.Need-procedure-at-requires Inv-loop μ-loop
 procedure-at-requires c κs = (c .before .before .before .before .indexed-rows .ensures, omega arith, c .before .before .before .loop .inv .1 .modules .counted)
 
-mul-procedure-entries : tie.Need-mul-procedure-entries Inv-loop μ-loop
-mul-procedure-entries c = omega arith
-
-array-set-from-procedure-entries : tie.Need-array-set-from-procedure-entries Inv-loop μ-loop
-array-set-from-procedure-entries c = omega arith
-
 add-procedures : tie.Need-add-procedures Inv-loop μ-loop
 add-procedures c = omega (arith, scan-few (c .before .before .before .before .before .loop .inv .1))
-
-cast-i-2 : tie.Need-cast-i-2 Inv-loop μ-loop
-cast-i-2 c = omega arith
 
 loop-less-3 : tie.Need-loop-less-3 Inv-loop μ-loop
 loop-less-3 c = omega (arith, procedure-within _ _ (c .before .before .procedure-at .ensures) (omega arith))
@@ -100,12 +61,6 @@ loop-again-3 c = (
       (⊎-elim (λ w. inl (w .0 .taken, w .1)) (λ w. inr (w .0 .left, w .1)) (c .before .if3 .came)),
 )
 
-add-i-2 : tie.Need-add-i-2 Inv-loop μ-loop
-add-i-2 c = omega arith
-
-loop-less-4 : tie.Need-loop-less-4 Inv-loop μ-loop
-loop-less-4 c = omega arith
-
 loop-again-4 : tie.Need-loop-again-4 Inv-loop μ-loop
 loop-again-4 c = (omega arith, scan-other (c .before .before .before .loop .inv .1) (c .before .kind-at .ensures) (c .match .rest .0 .0 .1) (c .match .rest .0 .1) (c .match .rest .1))
 
@@ -113,36 +68,4 @@ returns : tie.Need-returns Inv-loop μ-loop
 returns c = scan-whole (c .before .loop .inv .1) (omega arith)
 
 pub index-of-spec : {M : Type 1} → statement M
-index-of-spec =
-    tie.close
-    (tie.spec
-    Inv-loop
-    μ-loop
-    indexed-rows-requires
-    loop-holds
-    kind-at-requires
-    cast-module-rows
-    mul-module-rows
-    array-write-module-rows
-    add-modules
-    add-i
-    loop-less
-    loop-again
-    type-at-requires
-    mul-type-entries
-    array-set-from-type-entries
-    add-types
-    cast-i
-    loop-less-2
-    loop-again-2
-    procedure-at-requires
-    mul-procedure-entries
-    array-set-from-procedure-entries
-    add-procedures
-    cast-i-2
-    loop-less-3
-    loop-again-3
-    add-i-2
-    loop-less-4
-    loop-again-4
-    returns)
+index-of-spec = tie.close (tie.spec Inv-loop μ-loop (λ c κs. search needs) loop-holds (λ c κs. search needs) (λ c. omega arith) (λ c. omega arith) (λ c. omega arith) add-modules (λ c. omega arith) (λ c. omega arith) loop-again type-at-requires (λ c. omega arith) (λ c. omega arith) add-types (λ c. omega arith) loop-less-2 loop-again-2 procedure-at-requires (λ c. omega arith) (λ c. omega arith) add-procedures (λ c. omega arith) loop-less-3 loop-again-3 (λ c. omega arith) (λ c. omega arith) loop-again-4 returns)

@@ -9,21 +9,6 @@ use Rattle.table.proofs.Laws.{run-within}
 use Rattle.table.proofs.index.procedure_at.Statement.{statement}
 use Rattle.table.proofs.index.procedure_at.Tie as tie
 
-add-run-end : tie.Need-add-run-end
-add-run-end c = search needs
-
-run-end-requires : tie.Need-run-end-requires
-run-end-requires c κs = search needs
-
-run-end-requires-2 : tie.Need-run-end-requires-2
-run-end-requires-2 c κs = search needs
-
-run-end-requires-3 : tie.Need-run-end-requires-3
-run-end-requires-3 c κs = search needs
-
-cast-t9 : tie.Need-cast-t9
-cast-t9 c = search needs
-
 owner-of-requires : tie.Need-owner-of-requires
 owner-of-requires c κs = omega (arith, count-few (isKind (c .before .before .before .before .args .table .now) moduleKind) (c .before .before .before .before .args .i))
 
@@ -46,16 +31,4 @@ unfolding procedureAt codeEnd codeStart resultsStart ownerAt
 returns c = cc
 
 pub procedure-at-spec : {M : Type 1} → statement M
-procedure-at-spec =
-    tie.close
-    (tie.spec
-    add-run-end
-    run-end-requires
-    run-end-requires-2
-    run-end-requires-3
-    cast-t9
-    owner-of-requires
-    cast-t11
-    cast-t12
-    cast-t13
-    returns)
+procedure-at-spec = tie.close (tie.spec (λ c. search needs) (λ c κs. search needs) (λ c κs. search needs) (λ c κs. search needs) (λ c. search needs) owner-of-requires cast-t11 cast-t12 cast-t13 returns)

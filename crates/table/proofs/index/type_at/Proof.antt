@@ -9,15 +9,6 @@ use Rattle.table.proofs.Laws.{run-within}
 use Rattle.table.proofs.index.type_at.Statement.{statement}
 use Rattle.table.proofs.index.type_at.Tie as tie
 
-add-run-end : tie.Need-add-run-end
-add-run-end c = search needs
-
-run-end-requires : tie.Need-run-end-requires
-run-end-requires c κs = search needs
-
-cast-t7 : tie.Need-cast-t7
-cast-t7 c = search needs
-
 owner-of-requires : tie.Need-owner-of-requires
 owner-of-requires c κs = omega (arith, count-few (isKind (c .before .before .args .table .now) moduleKind) (c .before .before .args .i))
 
@@ -29,5 +20,4 @@ unfolding typeAt ownerAt
 returns c = cc
 
 pub type-at-spec : {M : Type 1} → statement M
-type-at-spec =
-    tie.close (tie.spec add-run-end run-end-requires cast-t7 owner-of-requires cast-t9 returns)
+type-at-spec = tie.close (tie.spec (λ c. search needs) (λ c κs. search needs) (λ c. search needs) owner-of-requires cast-t9 returns)

@@ -17,9 +17,6 @@ abbrev μ-loop : tie.MeasureT-loop
 loop-holds : tie.Need-loop-holds Inv-loop μ-loop
 loop-holds c = refl
 
-kind-at-requires : tie.Need-kind-at-requires Inv-loop μ-loop
-kind-at-requires c κs = search needs
-
 returns : tie.Need-returns Inv-loop μ-loop
 returns c =
     let yes = is-kind _ _ _ (c .before .kind-at .ensures) (c .if1 .taken) in
@@ -31,12 +28,6 @@ returns-2 c =
     let yes = is-kind _ _ _ (c .before .before .kind-at .ensures) (c .if2 .taken) in
     sym (c .before .before .before .before .loop .inv ∙ end-here _ _ (omega arith) (ends-procedure _ _ no yes))
 
-add-i : tie.Need-add-i Inv-loop μ-loop
-add-i c = omega arith
-
-loop-less : tie.Need-loop-less Inv-loop μ-loop
-loop-less c = omega arith
-
 loop-again : tie.Need-loop-again Inv-loop μ-loop
 loop-again c =
     let no = not-kind _ _ _ (c .before .before .kind-at .ensures) (c .before .if1 .left) in
@@ -47,16 +38,4 @@ returns-3 : tie.Need-returns-3 Inv-loop μ-loop
 returns-3 c = sym (c .before .loop .inv ∙ end-past _ _ (c .loop-test .left))
 
 pub procedure-end-spec : {M : Type 1} → statement M
-procedure-end-spec =
-    tie.close
-    (tie.spec
-    Inv-loop
-    μ-loop
-    loop-holds
-    kind-at-requires
-    returns
-    returns-2
-    add-i
-    loop-less
-    loop-again
-    returns-3)
+procedure-end-spec = tie.close (tie.spec Inv-loop μ-loop loop-holds (λ c κs. search needs) returns returns-2 (λ c. omega arith) (λ c. omega arith) loop-again returns-3)

@@ -22,23 +22,11 @@ abbrev μ-loop : tie.MeasureT-loop
 loop-holds : tie.Need-loop-holds Inv-loop μ-loop
 loop-holds c = omega (arith, count-zero (isKind (c .before .args .table .now) procedureKind))
 
-kind-at-requires : tie.Need-kind-at-requires Inv-loop μ-loop
-kind-at-requires c κs = search needs
-
 returns : tie.Need-returns Inv-loop μ-loop
 unfolding procedureRow
 returns c =
     let yes = is-kind _ _ _ (c .before .before .kind-at .ensures) (c .before .if1 .taken) in
     sym (ap (nth _ _) (omega arith) ∙ nth-count _ _ _ (omega arith) yes .1)
-
-sub-left : tie.Need-sub-left Inv-loop μ-loop
-sub-left c = omega arith
-
-add-i : tie.Need-add-i Inv-loop μ-loop
-add-i c = omega arith
-
-loop-less : tie.Need-loop-less Inv-loop μ-loop
-loop-less c = omega arith
 
 loop-again : tie.Need-loop-again Inv-loop μ-loop
 loop-again c =
@@ -57,16 +45,4 @@ returns-2 c =
     sym (nth-none (isKind t procedureKind) (rowCount t) _ (omega (arith, ap (count (isKind t procedureKind)) e)))
 
 pub procedure-row-spec : {M : Type 1} → statement M
-procedure-row-spec =
-    tie.close
-    (tie.spec
-    Inv-loop
-    μ-loop
-    loop-holds
-    kind-at-requires
-    returns
-    sub-left
-    add-i
-    loop-less
-    loop-again
-    returns-2)
+procedure-row-spec = tie.close (tie.spec Inv-loop μ-loop loop-holds (λ c κs. search needs) returns (λ c. omega arith) (λ c. omega arith) (λ c. omega arith) loop-again returns-2)

@@ -9,27 +9,6 @@ use Rattle.table.proofs.Laws.{part-inside, start-inside, end-within}
 use Rattle.table.proofs.procedures.procedure_rows.Statement.{statement}
 use Rattle.table.proofs.procedures.procedure_rows.Tie as tie
 
-procedure-row-requires : tie.Need-procedure-row-requires
-procedure-row-requires c κs = search needs
-
-add-procedure-end : tie.Need-add-procedure-end
-add-procedure-end c = search needs
-
-procedure-end-requires : tie.Need-procedure-end-requires
-procedure-end-requires c κs = search needs
-
-part-requires : tie.Need-part-requires
-part-requires c κs = search needs
-
-sub-result : tie.Need-sub-result
-sub-result c = search needs
-
-part-result-start : tie.Need-part-result-start
-part-result-start c = search needs
-
-part-result-end : tie.Need-part-result-end
-part-result-end c = search needs
-
 returns : tie.Need-returns
 unfolding procedureRows procedureStart hasProcedure
 returns c =
@@ -49,15 +28,4 @@ returns-2 c =
     (rw (← row, none), ap (placeIn _) (sym (rw (← row, none))))
 
 pub procedure-rows-spec : {M : Type 1} → statement M
-procedure-rows-spec =
-    tie.close
-    (tie.spec
-    procedure-row-requires
-    add-procedure-end
-    procedure-end-requires
-    part-requires
-    sub-result
-    part-result-start
-    part-result-end
-    returns
-    returns-2)
+procedure-rows-spec = tie.close (tie.spec (λ c κs. search needs) (λ c. search needs) (λ c κs. search needs) (λ c κs. search needs) (λ c. search needs) (λ c. search needs) (λ c. search needs) returns returns-2)

@@ -1,0 +1,17 @@
+use borrow.Author.Tests.{ne-eqb}
+use borrow.Author.Needs.{needs}
+use Rattle.program.specs.Program.{fieldRow}
+use Rattle.leaks.specs.Leaks.{borrowsGuarded}
+use Rattle.leaks.proofs.borrows_guarded.Statement.{statement}
+use Rattle.leaks.proofs.borrows_guarded.Tie as tie
+
+returns : tie.Need-returns
+unfolding borrowsGuarded
+returns c = rw (ne-eqb _ _ (c .if1 .taken))
+
+returns-2 : tie.Need-returns-2
+unfolding borrowsGuarded fieldRow
+returns-2 c = rw (c .before .before .before .before .if1 .left, ← c .before .row-at .ensures)
+
+pub borrows-guarded-spec : {M : Type 1} → statement M
+borrows-guarded-spec = tie.close (tie.spec returns (λ c. search needs) (λ c. search needs) (λ c. search needs) (λ c. search needs) (λ c κs. search needs) returns-2)
