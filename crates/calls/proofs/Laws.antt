@@ -12,9 +12,9 @@ use Rattle.table.specs.declared.Row.{Row}
 use Rattle.table.specs.declared.index.Index.{Index}
 use Rattle.table.specs.declared.index.ProcedureEntry.{ProcedureEntry}
 use Rattle.table.specs.Rows.{rowAt, kindAt, isKind}
-use Rattle.program.specs.Program.{rowKind, kindsOf, procedureIn, parameterKinds, resultKinds}
-use Rattle.kinds.proofs.Laws.{kinds-none, kinds-first}
-use Rattle.rules.specs.Calls.{callRow, argumentRow, arguments, allNumbers, noSuchProcedure, notNumbers, wrongCount, badBudget, badCall, call, callsFrom}
+use Rattle.declarations.specs.Program.{rowKind, kindsOf, procedureIn, parameterKinds, resultKinds}
+use Rattle.effects.proofs.Laws.{kinds-none, kinds-first}
+use Rattle.semantics.specs.Calls.{callRow, argumentRow, arguments, allNumbers, noSuchProcedure, notNumbers, wrongCount, badBudget, badCall, call, callsFrom}
 
 -- A call's arguments.
 module _ (l : List ℕ) where

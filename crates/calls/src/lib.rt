@@ -5,8 +5,8 @@ ghost use Prim.Native.Nat.{_+_, _-_};
 ghost use lib.Dec.{eqb, leb};
 ghost use lib.ListN.{length};
 ghost use Rattle.table.specs.Rows.{rowCount, rowAt};
-ghost use Rattle.program.specs.Program.{kindsOf, procedureIn, parameterKinds, resultKinds};
-ghost use Rattle.rules.specs.Calls.{arguments, isPublic, badKind, unusedByte, argumentFirst, allNumbers, badBudget, listFault, listOf};
+ghost use Rattle.declarations.specs.Program.{kindsOf, procedureIn, parameterKinds, resultKinds};
+ghost use Rattle.semantics.specs.Calls.{arguments, isPublic, badKind, unusedByte, argumentFirst, allNumbers, badBudget, listFault, listOf};
 use table::Row;
 use table::Verdict;
 use table::format;
@@ -112,7 +112,7 @@ fn all_numbers(table: &[u8], from: usize, to: usize) -> bool
 {
     let mut i = from;
     while i < to {
-        if program::row_kind(table::row_at(table, i)) != 0 {
+        if declarations::row_kind(table::row_at(table, i)) != 0 {
             return false;
         }
         i += 1;
@@ -124,7 +124,7 @@ fn all_numbers(table: &[u8], from: usize, to: usize) -> bool
 fn not_numbers(table: &[u8], p: ProcedureEntry) -> bool
     ensures { λ r. ⌜ r ≡ not (allNumbers (parameterKinds (now (table .entry)) p) && allNumbers (resultKinds (now (table .entry)) p)) ⌝ }
 {
-    let end = program::parameters_end(table, p);
+    let end = declarations::parameters_end(table, p);
     if all_numbers(table, (p.row as usize) + 1, end) {
         return !all_numbers(table, p.results as usize, p.code as usize);
     }

@@ -2,8 +2,8 @@
 use mathlib.Core.Path.{_≡_, refl}
 use mathlib.Core.List.{List, _++_, map, map-append}
 use Rattle.judging.specs.Judging.{judgeOf}
-use Rattle.rules.specs.Machine.{Entry}
-use Rattle.rules.specs.Run.{runOf}
+use Rattle.semantics.specs.Machine.{Entry}
+use Rattle.semantics.specs.Run.{runOf}
 use Rattle.examples.specs.Examples.{Example, Answer, judgingRows, judgingWalks, judgingMarks, judgingOverwritten, runningCalls, runningLimits, examples, line, given, expected, answered, answers}
 use Rattle.examples.proofs.Rules.{rules}
 

@@ -7,10 +7,10 @@ use Rattle.table.specs.Flags
 use Rattle.table.specs.Index
 use Rattle.table.specs.Procedures
 use Rattle.rows.specs.Rows
-use Rattle.program.specs.Program
+use Rattle.declarations.specs.Program
 use Rattle.names.specs.Names
-use Rattle.kinds.specs.Kinds
-use Rattle.kinds.specs.Effects
+use Rattle.effects.specs.Kinds
+use Rattle.effects.specs.Effects
 use Rattle.operands.specs.Operands
 use Rattle.reach.specs.Reach.{mark, push, sweep, rounds}
 use Rattle.flow.specs.Steps as Rules
@@ -20,13 +20,13 @@ use Rattle.steps.specs.Steps
 use Rattle.leaks.specs.Leaks
 use Rattle.judging.specs.Judging.{judgeOf, inOrder, passes}
 use Rattle.operands.specs.Flow.{effectIn}
-use Rattle.rules.specs.Step.{actions, instruction, effectAt, act}
-use Rattle.rules.specs.Calls
-use Rattle.rules.specs.History.{go, history, lastBase}
-use Rattle.rules.specs.Ascii.{ascii}
-use Rattle.rules.specs.Text
-use Rattle.rules.specs.Run.{bufferOf, historyOf, answerWith, runOf}
-use Rattle.rules.specs.Words.{moduleAbove, inGuest, guardedField}
+use Rattle.semantics.specs.Step.{actions, instruction, effectAt, act}
+use Rattle.semantics.specs.Calls
+use Rattle.semantics.specs.History.{go, history, lastBase}
+use Rattle.semantics.specs.Ascii.{ascii}
+use Rattle.semantics.specs.Text
+use Rattle.semantics.specs.Run.{bufferOf, historyOf, answerWith, runOf}
+use Rattle.semantics.specs.Words.{moduleAbove, inGuest, guardedField}
 use Rattle.examples.specs.Tables
 
 unfoldable pub rules : Unit {0}

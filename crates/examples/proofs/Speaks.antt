@@ -8,11 +8,11 @@ use lib.Dec.{eqb}
 use lib.ListN.{take, drop}
 use native.Mathlib.Omega.{arith}
 use Rattle.reach.specs.Reach.{here as first}
-use Rattle.rules.specs.Machine.{Value, num, obj, toField, Cell, gone, here, Entry, entry, Frame, frame, State, state, next}
-use Rattle.rules.specs.History.{base, Event, moment}
-use Rattle.rules.specs.Run.{historyOf}
-use Rattle.rules.specs.Words.{operand, Exists}
-use Rattle.rules.specs.Claim.{none-left, also}
+use Rattle.semantics.specs.Machine.{Value, num, obj, toField, Cell, gone, here, Entry, entry, Frame, frame, State, state, next}
+use Rattle.semantics.specs.History.{base, Event, moment}
+use Rattle.semantics.specs.Run.{historyOf}
+use Rattle.semantics.specs.Words.{operand, Exists}
+use Rattle.semantics.specs.Claim.{none-left, also}
 use Rattle.examples.specs.Speaks.{Speaks, StopsAfterChange, Happens, Makes, BreaksUp, Publishes, Withdraws, Changes, HoldsAboveGuest, tableGuest, listGuest}
 use Rattle.examples.proofs.Rules.{rules}
 

@@ -7,13 +7,13 @@ use mathlib.Core.Option.{Option, none, some}
 use lib.ListN.{getElem? as nth}
 use Rattle.reach.specs.Reach.{here as first}
 use Rattle.table.specs.Index.{indexOf}
-use Rattle.rules.specs.Machine.{Value, num, toField, here, entry, frame, state, next}
-use Rattle.rules.specs.History.{Event, moment}
-use Rattle.rules.specs.Run.{historyOf}
-use Rattle.rules.specs.Words.{operand}
-use Rattle.rules.specs.Claim.{All, Safe, safe}
-use Rattle.rules.proofs.Handing.{all-nth}
-use Rattle.rules.proofs.Demand3.{all-head}
+use Rattle.semantics.specs.Machine.{Value, num, toField, here, entry, frame, state, next}
+use Rattle.semantics.specs.History.{Event, moment}
+use Rattle.semantics.specs.Run.{historyOf}
+use Rattle.semantics.specs.Words.{operand}
+use Rattle.semantics.specs.Claim.{All, Safe, safe}
+use Rattle.semantics.proofs.Handing.{all-nth}
+use Rattle.semantics.proofs.Demand3.{all-head}
 use Rattle.examples.specs.Tables.{table, rowsHandedOut, callsHandedOut}
 use Rattle.examples.specs.Weaker.{BreaksWithoutLeaks}
 use Rattle.examples.proofs.Rules.{rules}

@@ -11,12 +11,12 @@ use Rattle.table.specs.Rows.{rowCount}
 use Rattle.table.specs.Index.{indexOf}
 use Rattle.judging.specs.Judging.{judgeOf}
 use Rattle.reach.specs.Reach.{Mem}
-use Rattle.rules.specs.Machine.{Value, Cell, Entry, Frame, frame, State, state, Outcome, next, finished, stopped, stuck}
-use Rattle.rules.specs.Calls.{listOf}
-use Rattle.rules.specs.History.{Base, base, Event, moment, ended}
-use Rattle.rules.specs.Run.{historyOf}
-use Rattle.rules.specs.Words.{guest, guardedField, GuardedReference, Holds, Exists, NumberIn, IsEntry}
-use Rattle.rules.specs.Claim.{All, Restored}
+use Rattle.semantics.specs.Machine.{Value, Cell, Entry, Frame, frame, State, state, Outcome, next, finished, stopped, stuck}
+use Rattle.semantics.specs.Calls.{listOf}
+use Rattle.semantics.specs.History.{Base, base, Event, moment, ended}
+use Rattle.semantics.specs.Run.{historyOf}
+use Rattle.semantics.specs.Words.{guest, guardedField, GuardedReference, Holds, Exists, NumberIn, IsEntry}
+use Rattle.semantics.specs.Claim.{All, Restored}
 use Rattle.examples.specs.Tables.{table, rowsGuest, callsGuest}
 
 -- The words of demand 3 that ask about a table, at the table t: a guest's frame or not, a guarded field, a reference to one, what a stop restores

@@ -3,7 +3,7 @@ use Prim.Native.Nat.{ℕ, zero, suc, _+_, _*_}
 use mathlib.Core.List.{List, [], _∷_, _++_}
 use lib.ListN.{take, drop}
 use Rattle.laws.specs.Numbers.{toLe}
-use Rattle.rules.specs.Calls.{callRow, argumentRow}
+use Rattle.semantics.specs.Calls.{callRow, argumentRow}
 use Rattle.table.specs.Format.{moduleKind, typeKind, fieldKind, procedureKind, localKind, resultKind, instructionKind, opPop, opLoadConst, opMvLoc, opCpLoc, opStLoc, opBorrowLoc, opReadRef, opWriteRef, opBorrowFld, opPack, opUnpack, opMoveTo, opMoveFrom, opBorrowGlobal, opExists, opCall, opRet, opBranch, opBranchCond, opOp}
 
 -- the bytes of a row

@@ -9,9 +9,9 @@ use Rattle.names.specs.Names.{namesOf}
 use Rattle.operands.specs.Operands.{operandsOf}
 use Rattle.locals.specs.Locals.{localsOf}
 use Rattle.judging.specs.Judging.{inOrder, judgeOf}
-use Rattle.rules.specs.Calls.{listOf}
-use Rattle.rules.specs.Run.{historyOf}
-use Rattle.rules.specs.Claim.{All, Safe}
+use Rattle.semantics.specs.Calls.{listOf}
+use Rattle.semantics.specs.Run.{historyOf}
+use Rattle.semantics.specs.Claim.{All, Safe}
 
 -- over the table t and the list l
 pub record BreaksWithoutLeaks (t l : List ℕ) : Type 0 where

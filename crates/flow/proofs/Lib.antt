@@ -2,3 +2,4 @@ pub mod Paths
 pub mod Locals
 pub mod Marks
 pub mod Same
+pub mod Laws

@@ -10,7 +10,7 @@ use native.Mathlib.Decide.{decLt}
 use borrow.Author.Tests.{lt-ltb, le-ltb, le-leb, lt-leb, eq-eqb, ne-eqb}
 use lib.Dec.{eqb, ltb}
 use lib.ListN.{length, getD, drop, replicate}
-use Rattle.rules.specs.Limits.{tooManyFrames}
+use Rattle.semantics.specs.Limits.{tooManyFrames}
 use Rattle.state.specs.declared.Operand.{Operand}
 use Rattle.state.specs.declared.Operand.the-variants.{Empty, Number, Record, Refer}
 use Rattle.state.specs.declared.frames.State.{State}

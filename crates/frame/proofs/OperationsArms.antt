@@ -6,7 +6,7 @@ use native.Mathlib.Omega.{arith}
 use Rattle.arithmetic.specs.declared.Calculated.{Calculated}
 use Rattle.arithmetic.specs.declared.Calculated.the-variants.{Value, OutOfRange, Unknown}
 use Rattle.arithmetic.specs.Arithmetic.{calculation}
-use Rattle.rules.specs.Limits.{outOfRange}
+use Rattle.semantics.specs.Limits.{outOfRange}
 use Rattle.state.specs.declared.Operand.{Operand}
 use Rattle.state.specs.declared.Operand.the-variants.{Empty, Number, Record, Refer}
 use Rattle.state.specs.declared.frames.State.{State}

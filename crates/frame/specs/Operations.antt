@@ -5,7 +5,7 @@ use mathlib.Core.List.{List}
 use Rattle.arithmetic.specs.declared.Calculated.{Calculated}
 use Rattle.arithmetic.specs.declared.Calculated.the-variants.{Value, OutOfRange, Unknown}
 use Rattle.arithmetic.specs.Arithmetic.{calculation}
-use Rattle.rules.specs.Limits.{outOfRange}
+use Rattle.semantics.specs.Limits.{outOfRange}
 use Rattle.state.specs.declared.Operand.{Operand}
 use Rattle.state.specs.declared.Operand.the-variants.{Number}
 use Rattle.state.specs.declared.frames.State.{State}

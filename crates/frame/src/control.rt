@@ -1,7 +1,7 @@
 // Call, Ret and BranchCond.
 ghost use mathlib.Core.Path.{_≡_};
 ghost use Prim.Native.Nat.{_+_, _-_, _%_};
-ghost use Rattle.program.specs.Program.{localCount, parametersEnd};
+ghost use Rattle.declarations.specs.Program.{localCount, parametersEnd};
 ghost use Rattle.state.specs.Cells.{cellsOf};
 ghost use Rattle.frame.specs.Turning.{after};
 ghost use Rattle.frame.specs.Control.{within, calledIn, callOf, returnedTo, retOf, branchOf};
@@ -32,7 +32,7 @@ pub fn call(s: State, cells: &mut [u64], table: &[u8], callee: ProcedureEntry, b
     ensures { λ r. ⌜ after r (cellsOf (now (cells .exit))) ≡ callOf (cellsOf (now (cells .entry))) s b (parametersEnd (now (table .entry)) callee - (callee .row + 1)) (localCount callee) ⌝ }
 {
     let k = (steps::parameters_of(table, callee) % 256) as u8;
-    call_with(s, cells, b, k, within(program::local_count(callee)))
+    call_with(s, cells, b, k, within(declarations::local_count(callee)))
 }
 
 // The k top operands handed to the frame below.

@@ -1,7 +1,7 @@
 // Pop, LoadConst, MvLoc, CpLoc, StLoc and BorrowLoc.
 ghost use mathlib.Core.Path.{_≡_};
 ghost use Prim.Native.Nat.{_%_};
-ghost use Rattle.program.specs.Program.{localKind};
+ghost use Rattle.declarations.specs.Program.{localKind};
 ghost use Rattle.state.specs.Cells.{cellsOf};
 ghost use Rattle.frame.specs.Turning.{after};
 ghost use Rattle.frame.specs.Stack.{poppedBy, constOf, moveOf, copyOf, storeOf, borrowOf};
@@ -45,7 +45,7 @@ fn kind_of_local(table: &[u8], own: ProcedureEntry, l: u16) -> u16
     ensures { λ r. ⌜ r ≡ localKind (now (table .entry)) own l % 65536 ⌝ }
 {
     let row = table::row_at(table, (own.row as usize) + 1 + (l as usize));
-    (program::row_kind(row) % 65536) as u16
+    (declarations::row_kind(row) % 65536) as u16
 }
 
 pub fn borrow_local(s: State, cells: &mut [u64], table: &[u8], own: ProcedureEntry, l: u16) -> State

@@ -12,14 +12,14 @@ use Rattle.table.specs.declared.index.ProcedureEntry.{ProcedureEntry}
 use Rattle.table.specs.declared.index.TypeEntry.{TypeEntry}
 use Rattle.table.specs.Index.{indexOf}
 use Rattle.table.specs.Rows.{rowAt}
-use Rattle.program.specs.Program.{number, typeIn, procedureIn, fieldCount, fieldKinds, localCount, localKind, codeOf, kindsOf, parameterKinds, parametersEnd, resultKinds, parameterCount}
-use Rattle.kinds.specs.Effects.{effects, noEffect}
+use Rattle.declarations.specs.Program.{number, typeIn, procedureIn, fieldCount, fieldKinds, localCount, localKind, codeOf, kindsOf, parameterKinds, parametersEnd, resultKinds, parameterCount}
+use Rattle.effects.specs.Effects.{effects, noEffect}
 use Rattle.steps.proofs.Laws.{length-kinds}
-use Rattle.judged.specs.Judged.{Judged}
-use Rattle.rules.specs.Machine.{Value, Cell, Entry, Frame, frame}
-use Rattle.rules.specs.Step.{instruction}
-use Rattle.rules.specs.Claim.{All, also, Owned}
-use Rattle.rules.proofs.Frames.{FrameOk, Suspended, bottom, over, Stack, runs}
+use Rattle.acceptance.specs.Judged.{Judged}
+use Rattle.semantics.specs.Machine.{Value, Cell, Entry, Frame, frame}
+use Rattle.semantics.specs.Step.{instruction}
+use Rattle.semantics.specs.Claim.{All, also, Owned}
+use Rattle.semantics.proofs.Frames.{FrameOk, Suspended, bottom, over, Stack, runs}
 use Rattle.state.specs.declared.Operand.{Operand}
 use Rattle.state.specs.declared.Operand.the-variants.{Empty}
 use Rattle.state.specs.declared.frames.State.{State}

@@ -9,10 +9,10 @@ use lib.Dec.{eqb}
 use lib.ListN.{length}
 use Rattle.table.specs.Index.{indexOf}
 use Rattle.table.specs.declared.index.ProcedureEntry.{ProcedureEntry}
-use Rattle.program.specs.Program.{procedureIn}
-use Rattle.rules.specs.Limits.{budgetSpent}
-use Rattle.rules.proofs.Changes.{clash}
-use Rattle.judged.specs.Judged.{Judged}
+use Rattle.declarations.specs.Program.{procedureIn}
+use Rattle.semantics.specs.Limits.{budgetSpent}
+use Rattle.semantics.proofs.Changes.{clash}
+use Rattle.acceptance.specs.Judged.{Judged}
 use Rattle.state.specs.declared.Operand.{Operand}
 use Rattle.state.specs.declared.frames.State.{State}
 use Rattle.state.specs.Layout.{allCells}

@@ -9,19 +9,19 @@ use native.Mathlib.Omega.{arith}
 use lib.ListN.{length, getD, getElem? as nth}
 use Rattle.table.specs.Index.{indexOf}
 use Rattle.table.specs.Rows.{rowCount}
-use Rattle.program.specs.Program.{procedureIn, localCount, codeOf, resultKinds, fieldKinds, typeIn}
+use Rattle.declarations.specs.Program.{procedureIn, localCount, codeOf, resultKinds, fieldKinds, typeIn}
 use Rattle.flow.specs.Walks.{Slot}
 use Rattle.operands.specs.Flow.{onto}
 use Rattle.leaks.specs.Leaks.{guardedMarks}
-use Rattle.walks.proofs.Regular.{guarded-plain}
-use Rattle.walks.proofs.Depth.{length-onto, good-same, deep}
-use Rattle.judged.specs.Judged.{Judged, localKinds}
-use Rattle.rules.specs.Machine.{Value, Cell, gone, here, Entry, Frame, frame, State as RuleState, state}
-use Rattle.rules.specs.Claim.{All, none-left, also}
-use Rattle.rules.proofs.Changes.{clash}
-use Rattle.rules.proofs.Typing.{Slots, snil, sempty, sfull, Fields, dnil, dnum, dobj, CellOk}
-use Rattle.rules.proofs.Frames.{FrameOk, Suspended, bottom, over, Stack, runs}
-use Rattle.rules.proofs.Entering.{has-length}
+use Rattle.acceptance.proofs.Regular.{guarded-plain}
+use Rattle.acceptance.proofs.Depth.{length-onto, good-same, deep}
+use Rattle.acceptance.specs.Judged.{Judged, localKinds}
+use Rattle.semantics.specs.Machine.{Value, Cell, gone, here, Entry, Frame, frame, State as RuleState, state}
+use Rattle.semantics.specs.Claim.{All, none-left, also}
+use Rattle.semantics.proofs.Changes.{clash}
+use Rattle.semantics.proofs.Typing.{Slots, snil, sempty, sfull, Fields, dnil, dnum, dobj, CellOk}
+use Rattle.semantics.proofs.Frames.{FrameOk, Suspended, bottom, over, Stack, runs}
+use Rattle.semantics.proofs.Entering.{has-length}
 use Rattle.state.specs.declared.Operand.{Operand}
 use Rattle.state.specs.declared.Operand.the-variants.{Empty, Number, Record, Refer}
 use Rattle.state.specs.declared.frames.State.{State}

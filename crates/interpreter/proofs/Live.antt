@@ -12,26 +12,26 @@ use lib.ListN.{length, getD, getElem? as nth}
 use Rattle.table.specs.Format.{opBorrowLoc, opBorrowFld}
 use Rattle.table.specs.Index.{indexOf}
 use Rattle.table.specs.Rows.{rowAt}
-use Rattle.program.specs.Program.{number, isReference, typeIn, procedureIn, localKind, codeOf}
-use Rattle.kinds.specs.Effects.{Effect, effects, noEffect}
+use Rattle.declarations.specs.Program.{number, isReference, typeIn, procedureIn, localKind, codeOf}
+use Rattle.effects.specs.Effects.{Effect, effects, noEffect}
 use Rattle.operands.specs.Flow.{onto, effectIn}
 use Rattle.locals.specs.Locals.{needsFull}
 use Rattle.leaks.specs.Leaks.{guardedMarks}
-use Rattle.walks.proofs.Regular.{guarded-plain, step-takes}
-use Rattle.walks.proofs.Depth.{length-onto, good-same, deep}
-use Rattle.judged.specs.Judged.{Instruction, Judged}
-use Rattle.rules.specs.Machine.{Value, obj, Cell, Entry, Frame, frame, state, Outcome}
-use Rattle.rules.specs.Claim.{All, none-left, also, Owned, IsNumber}
-use Rattle.rules.proofs.Counts.{held-set, same-one, alive-gone}
-use Rattle.rules.proofs.Changes.{clash}
-use Rattle.rules.proofs.Sorts.{to-reference, reference-is}
-use Rattle.rules.proofs.Typing.{Fit, fnum, fobj, floc, ffld, frec, CellOk}
-use Rattle.rules.proofs.Places.{slot-full}
-use Rattle.rules.proofs.Frames.{FrameOk, typeOf, cell-at}
-use Rattle.rules.proofs.Entering.{has-length}
-use Rattle.rules.proofs.Instructions.{effect-at}
-use Rattle.rules.proofs.Running.{OutcomeOk}
-use Rattle.rules.proofs.Steps.{StateOk, DidAt, step-ok}
+use Rattle.acceptance.proofs.Regular.{guarded-plain, step-takes}
+use Rattle.acceptance.proofs.Depth.{length-onto, good-same, deep}
+use Rattle.acceptance.specs.Judged.{Instruction, Judged}
+use Rattle.semantics.specs.Machine.{Value, obj, Cell, Entry, Frame, frame, state, Outcome}
+use Rattle.semantics.specs.Claim.{All, none-left, also, Owned, IsNumber}
+use Rattle.semantics.proofs.Counts.{held-set, same-one, alive-gone}
+use Rattle.semantics.proofs.Changes.{clash}
+use Rattle.semantics.proofs.Sorts.{to-reference, reference-is}
+use Rattle.semantics.proofs.Typing.{Fit, fnum, fobj, floc, ffld, frec, CellOk}
+use Rattle.semantics.proofs.Places.{slot-full}
+use Rattle.semantics.proofs.Frames.{FrameOk, typeOf, cell-at}
+use Rattle.semantics.proofs.Entering.{has-length}
+use Rattle.semantics.proofs.Instructions.{effect-at}
+use Rattle.semantics.proofs.Running.{OutcomeOk}
+use Rattle.semantics.proofs.Steps.{StateOk, DidAt, step-ok}
 use Rattle.state.specs.declared.Operand.{Operand}
 use Rattle.state.specs.declared.Operand.the-variants.{Empty, Number, Record, Refer}
 use Rattle.machine.specs.Machine.{MFrame, MRoom, MEntry, MState, mstate, MOutcome, mnext, mfinished, mstopped, mbroken}

@@ -8,9 +8,9 @@ use Rattle.table.specs.declared.Row.{Row}
 use Rattle.table.specs.declared.index.Index.{Index}
 use Rattle.table.specs.declared.index.ProcedureEntry.{ProcedureEntry}
 use Rattle.table.specs.Rows.{rowAt}
-use Rattle.program.specs.Program.{codeOf, procedureIn, localCount}
-use Rattle.rules.specs.Calls.{call}
-use Rattle.rules.specs.Limits.{budgetSpent}
+use Rattle.declarations.specs.Program.{codeOf, procedureIn, localCount}
+use Rattle.semantics.specs.Calls.{call}
+use Rattle.semantics.specs.Limits.{budgetSpent}
 use Rattle.state.specs.declared.Operand.{Operand}
 use Rattle.state.specs.declared.frames.State.{State}
 use Rattle.state.specs.Cells.{emptied}

@@ -10,9 +10,9 @@ use Rattle.table.specs.Index.{indexOf}
 use Rattle.table.specs.declared.Row.{Row}
 use Rattle.table.specs.declared.index.TypeEntry.{TypeEntry}
 use Rattle.table.specs.declared.index.ProcedureEntry.{ProcedureEntry}
-use Rattle.program.specs.Program.{procedureIn, typeIn, localCount, localKind, parametersEnd}
-use Rattle.kinds.specs.Effects.{effects}
-use Rattle.judged.specs.Judged.{Judged}
+use Rattle.declarations.specs.Program.{procedureIn, typeIn, localCount, localKind, parametersEnd}
+use Rattle.effects.specs.Effects.{effects}
+use Rattle.acceptance.specs.Judged.{Judged}
 use Rattle.state.specs.declared.Operand.{Operand}
 use Rattle.state.specs.declared.Operand.the-variants.{Record}
 use Rattle.state.specs.declared.frames.State.{State}

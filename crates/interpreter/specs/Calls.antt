@@ -5,8 +5,8 @@ use mathlib.Core.List.{List, [], _∷_}
 use lib.Dec.{eqb, leb}
 use lib.ListN.{length, getD, set}
 use Rattle.table.specs.declared.index.Index.{Index}
-use Rattle.program.specs.Program.{procedureIn, localCount}
-use Rattle.rules.specs.Calls.{Call, call}
+use Rattle.declarations.specs.Program.{procedureIn, localCount}
+use Rattle.semantics.specs.Calls.{Call, call}
 use Rattle.state.specs.declared.Operand.{Operand}
 use Rattle.state.specs.declared.Operand.the-variants.{Empty, Number}
 use Rattle.state.specs.declared.frames.State.{State}

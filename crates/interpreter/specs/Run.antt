@@ -10,8 +10,8 @@ use Rattle.table.specs.declared.index.TypeEntry.{TypeEntry}
 use Rattle.table.specs.declared.index.ProcedureEntry.{ProcedureEntry}
 use Rattle.table.specs.Index.{noType, noProcedure}
 use Rattle.table.specs.Rows.{rowAt}
-use Rattle.program.specs.Program.{codeOf}
-use Rattle.rules.specs.Limits.{budgetSpent}
+use Rattle.declarations.specs.Program.{codeOf}
+use Rattle.semantics.specs.Limits.{budgetSpent}
 use Rattle.state.specs.declared.Operand.{Operand}
 use Rattle.state.specs.declared.frames.State.{State}
 use Rattle.frame.specs.Turning.{Turning, after, ends}

@@ -3,8 +3,8 @@ ghost use mathlib.Core.Path.{_≡_};
 ghost use Prim.Native.Nat.{_+_, _-_, _≤_};
 ghost use lib.ListN.{length};
 ghost use Rattle.table.specs.Rows.{rowAt, rowCount};
-ghost use Rattle.program.specs.Program.{codeOf};
-ghost use Rattle.rules.specs.Calls.{arguments, call};
+ghost use Rattle.declarations.specs.Program.{codeOf};
+ghost use Rattle.semantics.specs.Calls.{arguments, call};
 ghost use Rattle.state.specs.Cells.{cellsOf};
 ghost use Rattle.frame.specs.Turning.{after};
 ghost use Rattle.interpreter.specs.Run.{runFrom};
@@ -161,7 +161,7 @@ pub fn call(
 {
     let row = table::row_at(list, i);
     let callee = calls::procedure_in(index, row.b as usize);
-    let count = frame::control::within(program::local_count(callee));
+    let count = frame::control::within(declarations::local_count(callee));
     keep_memory(saved, cells, s);
     state::empty_cells(cells, 16, count as u16);
     put_arguments(cells, list, i);

@@ -1,5 +1,5 @@
 // Reads table.bin and prints `accepted ROWS` or `refused N row R`. A missing file counts as no bytes. Where reading fails no verdict is printed.
-use report::Reading;
+use printing::Reading;
 
 // One byte more than the longest table, so that a longer file is refused and not cut.
 const ROOM: usize = 32769;
@@ -11,9 +11,9 @@ fn main() {
 
 // Judges what the file holds, read into the buffer.
 fn judge_file(room: &mut [u8]) {
-    let got = report::read_file(b"table.bin", room);
+    let got = printing::read_file(b"table.bin", room);
     let Reading::Bytes(n) = got else {
         return;
     };
-    report::print_verdict(judging::judge_table(&room[..n]));
+    printing::print_verdict(judging::judge_table(&room[..n]));
 }

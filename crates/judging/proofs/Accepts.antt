@@ -16,8 +16,8 @@ use Rattle.table.specs.Rows.{rowCount}
 use Rattle.table.specs.Verdicts.{andThen, valueOf, passOver}
 use Rattle.table.specs.Index.{indexOf}
 use Rattle.rows.specs.Rows.{lengthOf, rowsOf, faultAt}
-use Rattle.program.specs.Program.{codePass}
-use Rattle.program.proofs.Passes.{refused-accepted, both-accept, pass-fine, pass-clean}
+use Rattle.declarations.specs.Program.{codePass}
+use Rattle.declarations.proofs.Passes.{refused-accepted, both-accept, pass-fine, pass-clean}
 use Rattle.names.specs.Names.{namesOf, namesWith}
 use Rattle.operands.specs.Operands.{operandsOf, operandsWith}
 use Rattle.locals.specs.Locals.{localsOf}

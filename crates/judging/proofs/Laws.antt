@@ -8,7 +8,7 @@ use Rattle.table.specs.declared.index.Index.{Index}
 use Rattle.table.specs.Verdicts.{andThen}
 use Rattle.table.specs.Index.{indexOf}
 use Rattle.rows.specs.Rows.{lengthOf, rowsOf, formOf}
-use Rattle.program.proofs.Passes.{refused-accepted, both-accept}
+use Rattle.declarations.proofs.Passes.{refused-accepted, both-accept}
 use Rattle.names.specs.Names.{namesOf}
 use Rattle.operands.specs.Operands.{operandsOf}
 use Rattle.locals.specs.Locals.{localsOf}

@@ -22,11 +22,11 @@ use Rattle.table.specs.Verdicts.{andThen, valueOf, passOver}
 use Rattle.table.specs.Index.{indexOf}
 use Rattle.rows.specs.declared.Above.{Above}
 use Rattle.rows.specs.Rows as rows
-use Rattle.program.specs.Program.{codePass, codeOf, localCount}
-use Rattle.program.proofs.Passes.{refused-accepted, refused-number, pass-first}
+use Rattle.declarations.specs.Program.{codePass, codeOf, localCount}
+use Rattle.declarations.proofs.Passes.{refused-accepted, refused-number, pass-first}
 use Rattle.names.specs.Names as names
-use Rattle.kinds.specs.Kinds.{Kinds, good, bad, failed, taken, pushed, takenAll, pushedAll, faultAfter}
-use Rattle.kinds.specs.Effects.{Effect, applied, kindsAfter}
+use Rattle.effects.specs.Kinds.{Kinds, good, bad, failed, taken, pushed, takenAll, pushedAll, faultAfter}
+use Rattle.effects.specs.Effects.{Effect, applied, kindsAfter}
 use Rattle.operands.specs.Operands.{lastOfBlock, after, kindsBefore, codeFault, operandsOf, operandsWith}
 use Rattle.locals.specs.Locals.{needsFull, leavesEmpty, leavesRecord, leavesSome, localFault, localsOf}
 use Rattle.steps.specs.Steps.{stepAt, marksOf}

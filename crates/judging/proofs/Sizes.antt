@@ -24,10 +24,10 @@ use Rattle.table.specs.Procedures.{inTable, partOf, rowsBetween}
 use Rattle.table.proofs.Laws.{procedure-parts, procedure-locals, procedure-results, procedure-code}
 use Rattle.rows.specs.declared.Above.{Above}
 use Rattle.rows.specs.Rows.{rowsOf, faultAt, rowFault, misplaced, tooMany, aboveAt, belowRow, countBelow, countOf, owned, limits}
-use Rattle.program.specs.Program.{Sized, localCount, codeOf, procedureIn, codePass}
-use Rattle.program.specs.Limits.{overLimits, limited}
-use Rattle.program.proofs.Laws.{procedure-there, limits-hold, limited-in}
-use Rattle.program.proofs.Passes.{pass-same}
+use Rattle.declarations.specs.Program.{Sized, localCount, codeOf, procedureIn, codePass}
+use Rattle.declarations.specs.Limits.{overLimits, limited}
+use Rattle.declarations.proofs.Laws.{procedure-there, limits-hold, limited-in}
+use Rattle.declarations.proofs.Passes.{pass-same}
 use Rattle.locals.specs.Locals.{localFault, localsOf}
 use Rattle.locals.specs.Within.{localsWithin}
 use Rattle.leaks.specs.Leaks.{leakFault, leaksOf}

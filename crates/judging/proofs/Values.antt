@@ -19,8 +19,8 @@ use Rattle.table.specs.Rows.{rowCount, isKind}
 use Rattle.table.specs.Verdicts.{andThen, valueOf}
 use Rattle.table.specs.Index.{indexOf, indexedRows, procedureAt, noProcedure}
 use Rattle.rows.specs.Rows.{lengthOf, rowsOf, faultAt}
-use Rattle.program.specs.Program.{codeOf, codeVerdict, overProcedures, codePass, procedureIn}
-use Rattle.program.proofs.Laws.{procedure-ends}
+use Rattle.declarations.specs.Program.{codeOf, codeVerdict, overProcedures, codePass, procedureIn}
+use Rattle.declarations.proofs.Laws.{procedure-ends}
 use Rattle.names.specs.Names.{namesOf, namesWith}
 use Rattle.operands.specs.Operands.{operandsOf, operandsWith}
 use Rattle.locals.specs.Locals.{localsOf}

@@ -20,16 +20,16 @@ use Rattle.table.specs.declared.Verdict.the-variants.{Accepted}
 use Rattle.table.specs.declared.index.Index.{Index}
 use Rattle.table.specs.declared.index.ProcedureEntry.{ProcedureEntry}
 use Rattle.table.specs.Rows.{rowCount, rowAt}
-use Rattle.program.specs.Program.{codeOf, codeVerdict, localCount, parametersEnd, parameterCount}
-use Rattle.program.specs.Limits.{overLimits, limited}
-use Rattle.program.proofs.Laws.{verdictOf, on-part}
+use Rattle.declarations.specs.Program.{codeOf, codeVerdict, localCount, parametersEnd, parameterCount}
+use Rattle.declarations.specs.Limits.{overLimits, limited}
+use Rattle.declarations.proofs.Laws.{verdictOf, on-part}
 use Rattle.flow.specs.Steps.{Step, below, nextOf, nexts}
 use Rattle.flow.specs.Places.{nodesOf, succs, reached, within, markMoves, placeMoves, startPlaces, markNodes, operandMarked}
 use Rattle.flow.proofs.Same.{marks-same}
 use Rattle.flow.proofs.Paths.{node-div, node-mod}
-use Rattle.spread.specs.declared.Going.{Going}
-use Rattle.spread.specs.Moves.{GoesOn}
-use Rattle.spread.proofs.Laws.{graph-inside, next-below}
+use Rattle.flow.specs.declared.Going.{Going}
+use Rattle.flow.specs.Moves.{GoesOn}
+use Rattle.flow.proofs.Laws.{graph-inside, next-below}
 use Rattle.locals.specs.Sets.{noLocals, contains}
 use Rattle.locals.proofs.Laws.{verdict-same}
 use Rattle.steps.specs.declared.Shape.{Shape}

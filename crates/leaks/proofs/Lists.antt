@@ -16,8 +16,8 @@ use Rattle.table.specs.declared.index.TypeEntry.{TypeEntry}
 use Rattle.table.specs.declared.index.ProcedureEntry.{ProcedureEntry}
 use Rattle.table.specs.Format.{opBorrowFld}
 use Rattle.table.specs.Rows.{rowAt}
-use Rattle.program.specs.Program.{number, codeOf, typeIn, procedureIn}
-use Rattle.kinds.specs.Effects.{effects, effectOf}
+use Rattle.declarations.specs.Program.{number, codeOf, typeIn, procedureIn}
+use Rattle.effects.specs.Effects.{effects, effectOf}
 use Rattle.operands.specs.Operands.{namedType}
 use Rattle.flow.specs.Steps.{Step}
 use Rattle.steps.specs.declared.Shape.{Shape}

@@ -17,7 +17,7 @@ use Rattle.reach.specs.Reach.{Mem, here, there}
 use Rattle.table.specs.Format.{opMvLoc, opCpLoc, opStLoc}
 use Rattle.flow.specs.Steps.{Step}
 use Rattle.flow.specs.Places.{freshPlaces, within, markMoves, placeMoves}
-use Rattle.spread.specs.Moves.{added}
+use Rattle.flow.specs.Moves.{added}
 use Rattle.steps.specs.declared.Shape.{Shape}
 use Rattle.steps.specs.Shapes.{viewStep}
 use Rattle.leaks.specs.Unmarked.{makesNoMark}

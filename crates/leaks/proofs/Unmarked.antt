@@ -24,15 +24,15 @@ use Rattle.table.specs.declared.Row.{Row}
 use Rattle.table.specs.declared.index.TypeEntry.{TypeEntry}
 use Rattle.table.specs.Format.{opBorrowFld, opCall, opRet}
 use Rattle.table.specs.Rows.{rowCount, rowAt}
-use Rattle.program.specs.Program.{codeOf, codeVerdict, resultKinds, parameterCount}
-use Rattle.program.specs.Limits.{overLimits, limited}
-use Rattle.program.proofs.Laws.{verdictOf, limited-in, limited-out}
-use Rattle.kinds.specs.Effects.{effects}
+use Rattle.declarations.specs.Program.{codeOf, codeVerdict, resultKinds, parameterCount}
+use Rattle.declarations.specs.Limits.{overLimits, limited}
+use Rattle.declarations.proofs.Laws.{verdictOf, limited-in, limited-out}
+use Rattle.effects.specs.Effects.{effects}
 use Rattle.flow.specs.Steps.{Step, nexts}
 use Rattle.flow.specs.Places.{freshPlaces, within, markMoves, placeMoves, startPlaces, markNodes, operandMarked}
 use Rattle.flow.specs.Paths.{Path, atFirst, onwards}
 use Rattle.flow.proofs.Paths.{path-shown}
-use Rattle.spread.proofs.Laws.{next-below}
+use Rattle.flow.proofs.Laws.{next-below}
 use Rattle.steps.specs.Steps.{stepOf, stepAt, marksOf}
 use Rattle.steps.proofs.Laws.{length-kinds, listed, marks-are}
 use Rattle.leaks.specs.declared.Shapes.{Shapes}

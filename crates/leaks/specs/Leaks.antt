@@ -14,7 +14,7 @@ use Rattle.table.specs.Rows.{rowAt}
 use Rattle.table.specs.Index.{indexOf}
 use Rattle.table.specs.Refusals.{markGiven, markReturned}
 use Rattle.table.specs.Flags.{isTrusted, isGuarded}
-use Rattle.program.specs.Program.{fieldRow, codePass}
+use Rattle.declarations.specs.Program.{fieldRow, codePass}
 use Rattle.flow.specs.Steps.{Step}
 use Rattle.flow.specs.Places.{operandMarked}
 use Rattle.steps.specs.Steps.{Marking, stepAt, marksOf}

@@ -1,4 +1,4 @@
--- What the code of the leaks pass answers for any bytes and any index: the pass over the procedures within the limits (`program/specs/Limits`). Of a table
+-- What the code of the leaks pass answers for any bytes and any index: the pass over the procedures within the limits (`declarations/specs/Limits`). Of a table
 -- that the rows pass accepts, with its own index, this is the leaks pass.
 use Prim.Native.Nat.{ℕ}
 use mathlib.Core.List.{List}
@@ -6,8 +6,8 @@ use lib.ListN.{getD, take, drop}
 use Rattle.table.specs.declared.Verdict.{Verdict}
 use Rattle.table.specs.declared.index.Index.{Index}
 use Rattle.table.specs.declared.index.ProcedureEntry.{ProcedureEntry}
-use Rattle.program.specs.Program.{overProcedures, codePass}
-use Rattle.program.specs.Limits.{limited}
+use Rattle.declarations.specs.Program.{overProcedures, codePass}
+use Rattle.declarations.specs.Limits.{limited}
 use Rattle.flow.specs.Steps.{Step}
 use Rattle.steps.specs.Shapes.{viewStep, noShape}
 use Rattle.leaks.specs.declared.Shapes.{Shapes}

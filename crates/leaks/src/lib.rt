@@ -7,20 +7,20 @@ ghost use lib.ListN.{length};
 ghost use Rattle.laws.specs.Lists.{every};
 ghost use Rattle.reach.specs.Search.{after, visitAll};
 ghost use Rattle.table.specs.Rows.{rowAt, rowCount};
-ghost use Rattle.program.specs.Program.{codeOf, codeVerdict};
-ghost use Rattle.program.specs.Limits.{limited};
+ghost use Rattle.declarations.specs.Program.{codeOf, codeVerdict};
+ghost use Rattle.declarations.specs.Limits.{limited};
 ghost use Rattle.flow.specs.Steps.{nexts};
 ghost use Rattle.flow.specs.Places.{markPlaces, markMoves, within, markNodes, startPlaces};
-ghost use Rattle.spread.specs.Moves.{placesOf, GoesOn};
+ghost use Rattle.flow.specs.Moves.{placesOf, GoesOn};
 ghost use Rattle.locals.specs.Sets.{contains};
 ghost use Rattle.steps.specs.Steps.{stepOf, stepAt, marksOf};
 ghost use Rattle.steps.specs.Shapes.{viewStep};
 ghost use Rattle.leaks.specs.Leaks.{borrowsGuarded, guardedMarks, trustedAt, someMarked, leakFrom, leakIn};
 ghost use Rattle.leaks.specs.Within.{leaksFrom, leaksWithin, stepsOf};
 ghost use Rattle.leaks.specs.Unmarked.{makesNoMark, canMark, isQuiet};
+use flow::Going;
+use flow::Moves;
 use locals::LocalSet;
-use spread::Going;
-use spread::Moves;
 use steps::Shape;
 use table::Row;
 use table::Verdict;
@@ -137,7 +137,7 @@ fn expand(
     let n = code.len() / format::ROW_BYTES;
     let row = table::row_at(code, i);
     let moves = mark_moves(shape, x);
-    spread::go_on(visited, queue, tail, 33, n, row, i, moves)
+    flow::go_on(visited, queue, tail, 33, n, row, i, moves)
 }
 
 // Visits the places where walks start: the parameters that are given as marked, the highest first, and the bare first instruction.
@@ -376,7 +376,7 @@ fn judge_procedure(
     ensures { λ r. ⌜ ((q : ℕ) → r ≡ codeVerdict (limited (now (table .entry)) own (leakFrom (now (table .entry)) index own (marksOf (now (table .entry)) index (guardedMarks (now (table .entry))) q own))) (own .code) (rowCount (now (code .entry)))) ⌝ }
 {
     let n = code.len() / format::ROW_BYTES;
-    if program::over_limits(table, own) {
+    if declarations::over_limits(table, own) {
         return Verdict::Accepted(n);
     }
     if n == 0 {

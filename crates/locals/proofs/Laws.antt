@@ -21,14 +21,14 @@ use Rattle.table.specs.declared.Verdict.the-variants.{Accepted, Refused}
 use Rattle.table.specs.declared.index.ProcedureEntry.{ProcedureEntry}
 use Rattle.table.specs.Format.{opMvLoc, opCpLoc, opStLoc, opBorrowLoc, opRet}
 use Rattle.table.specs.Rows.{rowCount, rowAt}
-use Rattle.program.specs.Program.{codeOf, codeVerdict, localCount, localKind, isRecord, parameterCount}
+use Rattle.declarations.specs.Program.{codeOf, codeVerdict, localCount, localKind, isRecord, parameterCount}
 use Rattle.flow.specs.Steps.{below, nextOf, nexts}
 use Rattle.flow.specs.Places.{nodesOf as nodesFrom, succs, localMoves, statusAfter, startStatus, localNodes, reached, canBeEmpty, canBeFull}
 use Rattle.flow.proofs.Paths.{node-div, node-mod}
-use Rattle.spread.specs.declared.Moves.{Moves}
-use Rattle.spread.specs.declared.Going.{Going}
-use Rattle.spread.specs.Moves.{placesOf, added, GoesOn}
-use Rattle.spread.proofs.Laws.{graph-inside, next-below}
+use Rattle.flow.specs.declared.Moves.{Moves}
+use Rattle.flow.specs.declared.Going.{Going}
+use Rattle.flow.specs.Moves.{placesOf, added, GoesOn}
+use Rattle.flow.proofs.Laws.{graph-inside, next-below}
 use Rattle.locals.specs.declared.LocalSet.{LocalSet}
 use Rattle.locals.specs.Sets.{those}
 use Rattle.locals.specs.Locals.{rowStep, bareStep, needsFull, nodesOf, leavesEmpty, leavesFull, leavesRecord, leavesSome, localFault}

@@ -10,7 +10,7 @@ use Rattle.table.specs.Format.{opMvLoc, opCpLoc, opStLoc, opBorrowLoc, opRet}
 use Rattle.table.specs.Rows.{rowCount, rowAt}
 use Rattle.table.specs.Index.{indexOf}
 use Rattle.table.specs.Refusals.{emptyLocal, lostRecord}
-use Rattle.program.specs.Program.{codeOf, codePass, localCount, localKind, parameterCount, isRecord}
+use Rattle.declarations.specs.Program.{codeOf, codePass, localCount, localKind, parameterCount, isRecord}
 use Rattle.flow.specs.Steps.{Step, nexts}
 use Rattle.flow.specs.Places.{localNodes, canBeEmpty, canBeFull}
 

@@ -5,14 +5,14 @@ ghost use Prim.Native.Nat.{ℕ, _+_, _*_, _≤_, _<_};
 ghost use lib.Dec.{ltb};
 ghost use lib.ListN.{length, take, drop};
 ghost use Rattle.table.specs.Rows.{rowAt, rowCount};
-ghost use Rattle.program.specs.Program.{isRecord, localKind, codeOf, codeVerdict, parameterCount};
-ghost use Rattle.program.specs.Limits.{limited};
+ghost use Rattle.declarations.specs.Program.{isRecord, localKind, codeOf, codeVerdict, parameterCount};
+ghost use Rattle.declarations.specs.Limits.{limited};
 ghost use Rattle.flow.specs.Places.{statusAfter, startStatus};
 ghost use Rattle.locals.specs.Sets.{inserted, contains, those};
 ghost use Rattle.locals.specs.Locals.{rowStep, needsFull, nodesOf, localFault};
 ghost use Rattle.locals.specs.Faults.{emptyAt, fullAt, recordAt, someRecord, faultFrom};
 ghost use Rattle.locals.specs.Within.{localsWithin};
-use spread::Moves;
+use flow::Moves;
 use table::Row;
 use table::Verdict;
 use table::format;
@@ -85,7 +85,7 @@ fn spread_local(visited: &mut [bool], queue: &mut [u16], code: &[u8], params: us
         let row = table::row_at(code, i);
         let y = status_after(row, l, x);
         let moves = Moves::NONE.add(y as u16);
-        let on = spread::go_on(visited, queue, tail, 2, n, row, i, moves);
+        let on = flow::go_on(visited, queue, tail, 2, n, row, i, moves);
         tail = on.tail;
         i = on.at;
         x = on.place;
@@ -206,7 +206,7 @@ fn is_record_local(table: &[u8], p: ProcedureEntry, l: usize) -> bool
     requires { ⌜ l < 65536 ⌝ }
     ensures { λ r. ⌜ r ≡ isRecord (localKind (now (table .entry)) p l) ⌝ }
 {
-    program::row_kind(table::row_at(table, (p.row as usize) + 1 + l)) % 4 == 1
+    declarations::row_kind(table::row_at(table, (p.row as usize) + 1 + l)) % 4 == 1
 }
 
 // The locals of a procedure that are records.
@@ -241,7 +241,7 @@ fn needs_full(opcode: u8) -> bool
 fn parameter_count(table: &[u8], p: ProcedureEntry) -> usize
     ensures { λ r. ⌜ r ≡ parameterCount (now (table .entry)) p ⌝ }
 {
-    let end = program::parameters_end(table, p);
+    let end = declarations::parameters_end(table, p);
     let start = (p.row as usize) + 1;
     if start <= end { end - start } else { 0 }
 }
@@ -309,13 +309,13 @@ fn judge_procedure(
     ensures { λ r. ⌜ r ≡ codeVerdict (limited (now (table .entry)) own (localFault (now (table .entry)) own)) (own .code) (rowCount (now (code .entry))) ⌝ }
 {
     let n = code.len() / format::ROW_BYTES;
-    if program::over_limits(table, own) {
+    if declarations::over_limits(table, own) {
         return Verdict::Accepted(n);
     }
     if n == 0 {
         return Verdict::Accepted(0);
     }
-    let count = program::local_count(own);
+    let count = declarations::local_count(own);
     let params = parameter_count(table, own);
     spread_locals(nodes, queue, code, params, count);
     let records = record_locals(table, own, count);

@@ -9,26 +9,26 @@ use native.Mathlib.Omega.{arith}
 use lib.ListN.{length, getD, drop, replicate, length-append, length-map, length-drop, length-replicate, getElem? as nth}
 use Rattle.table.specs.declared.Verdict.the-variants.{Accepted}
 use Rattle.table.specs.Index.{indexOf}
-use Rattle.program.specs.Program.{procedureIn, localCount}
+use Rattle.declarations.specs.Program.{procedureIn, localCount}
 use Rattle.judging.specs.Judging.{judgeOf}
-use Rattle.judged.specs.Judged.{Bytes, Judged}
-use Rattle.judged.proofs.Judged.{judged}
-use Rattle.rules.specs.Machine.{Value, num, obj, toLocal, toField, toRecord, Cell, gone, here, Entry, entry, Frame, frame, State, state, Outcome, next, finished, stopped, stuck, liveCount}
-use Rattle.rules.specs.Step.{startLocals}
-use Rattle.rules.specs.Calls.{Call, call, listOf, callsOf}
-use Rattle.rules.specs.History.{Base, base, Event, moment, ended, bury, restored, afterwards, Run, ran, afterMoment, onward, go, begin, eventsOf, baseAfter, history, nothing, lastBase}
-use Rattle.rules.specs.Text.{decimal, spaced, values, fieldsIn, fieldsText, entryLine, entryLines, callLine, callLines, storeLines, textOf}
-use Rattle.rules.specs.Run.{historyOf}
-use Rattle.rules.specs.Callable.{Callable, GoodCall}
-use Rattle.rules.specs.Claim.{All, none-left, also, IsNumber}
-use Rattle.rules.proofs.Changes.{clash}
-use Rattle.rules.proofs.Sounds.{nth-app}
-use Rattle.rules.proofs.Typing.{_⊑_, snoc-more, snoc-last}
-use Rattle.rules.proofs.Running.{OutcomeOk, Rest}
-use Rattle.rules.proofs.Steps.{StateOk, DidAt}
-use Rattle.rules.proofs.Invariant.{BaseOk, call-run, nothing-ok, begin-ok, buried-count, buried-dead}
-use Rattle.rules.proofs.Ends.{ends, last-append, last-quiet, Quiet, go-quiet}
-use Rattle.rules.proofs.Callable.{good-calls}
+use Rattle.acceptance.specs.Judged.{Bytes, Judged}
+use Rattle.acceptance.proofs.Judged.{judged}
+use Rattle.semantics.specs.Machine.{Value, num, obj, toLocal, toField, toRecord, Cell, gone, here, Entry, entry, Frame, frame, State, state, Outcome, next, finished, stopped, stuck, liveCount}
+use Rattle.semantics.specs.Step.{startLocals}
+use Rattle.semantics.specs.Calls.{Call, call, listOf, callsOf}
+use Rattle.semantics.specs.History.{Base, base, Event, moment, ended, bury, restored, afterwards, Run, ran, afterMoment, onward, go, begin, eventsOf, baseAfter, history, nothing, lastBase}
+use Rattle.semantics.specs.Text.{decimal, spaced, values, fieldsIn, fieldsText, entryLine, entryLines, callLine, callLines, storeLines, textOf}
+use Rattle.semantics.specs.Run.{historyOf}
+use Rattle.semantics.specs.Callable.{Callable, GoodCall}
+use Rattle.semantics.specs.Claim.{All, none-left, also, IsNumber}
+use Rattle.semantics.proofs.Changes.{clash}
+use Rattle.semantics.proofs.Sounds.{nth-app}
+use Rattle.semantics.proofs.Typing.{_⊑_, snoc-more, snoc-last}
+use Rattle.semantics.proofs.Running.{OutcomeOk, Rest}
+use Rattle.semantics.proofs.Steps.{StateOk, DidAt}
+use Rattle.semantics.proofs.Invariant.{BaseOk, call-run, nothing-ok, begin-ok, buried-count, buried-dead}
+use Rattle.semantics.proofs.Ends.{ends, last-append, last-quiet, Quiet, go-quiet}
+use Rattle.semantics.proofs.Callable.{good-calls}
 use Rattle.state.specs.declared.Reference.{Reference}
 use Rattle.state.specs.declared.Operand.{Operand}
 use Rattle.state.specs.declared.Operand.the-variants.{Empty, Number, Record, Refer}

@@ -8,20 +8,20 @@ use native.Mathlib.Omega.{arith}
 use lib.ListN.{length, getD, getElem? as nth}
 use Rattle.table.specs.declared.Row.{Row}
 use Rattle.table.specs.Index.{indexOf}
-use Rattle.program.specs.Program.{number, procedureIn, localCount, localKind}
-use Rattle.kinds.specs.Effects.{Effect}
+use Rattle.declarations.specs.Program.{number, procedureIn, localCount, localKind}
+use Rattle.effects.specs.Effects.{Effect}
 use Rattle.operands.specs.Flow.{effectIn}
 use Rattle.leaks.specs.Leaks.{guardedMarks}
-use Rattle.walks.proofs.Regular.{step-takes}
-use Rattle.judged.specs.Judged.{Judged}
-use Rattle.rules.specs.Machine.{Value, Cell, Entry, Frame, frame, State, state, Outcome, next, finished, stopped, stuck}
-use Rattle.rules.specs.Step.{pushedOn, Taken, missing, took, taken, topKind, withTaken, actions, instruction, effectAt, act, step}
-use Rattle.rules.specs.History.{Event, Run, ran, afterMoment, onward, go, rowUp}
-use Rattle.rules.specs.Claim.{All, IsNumber}
-use Rattle.rules.proofs.Changes.{clash}
-use Rattle.rules.proofs.Typing.{_⊑_}
-use Rattle.rules.proofs.Running.{OutcomeOk}
-use Rattle.rules.proofs.Steps.{StateOk, DidAt, step-ok}
+use Rattle.acceptance.proofs.Regular.{step-takes}
+use Rattle.acceptance.specs.Judged.{Judged}
+use Rattle.semantics.specs.Machine.{Value, Cell, Entry, Frame, frame, State, state, Outcome, next, finished, stopped, stuck}
+use Rattle.semantics.specs.Step.{pushedOn, Taken, missing, took, taken, topKind, withTaken, actions, instruction, effectAt, act, step}
+use Rattle.semantics.specs.History.{Event, Run, ran, afterMoment, onward, go, rowUp}
+use Rattle.semantics.specs.Claim.{All, IsNumber}
+use Rattle.semantics.proofs.Changes.{clash}
+use Rattle.semantics.proofs.Typing.{_⊑_}
+use Rattle.semantics.proofs.Running.{OutcomeOk}
+use Rattle.semantics.proofs.Steps.{StateOk, DidAt, step-ok}
 use Rattle.state.specs.declared.Operand.{Operand}
 use Rattle.machine.specs.Machine.{MFrame, mframe, MRoom, MEntry, MState, mstate, MOutcome, mnext, mfinished, mstopped, mbroken, topmost, doings}
 use Rattle.machine.specs.Represents as Rep

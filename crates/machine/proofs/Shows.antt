@@ -9,10 +9,10 @@ use native.Mathlib.Omega.{arith}
 use borrow.Author.Tests.{eqb-true, eqb-false, eq-eqb, ne-eqb}
 use lib.Dec.{eqb}
 use lib.ListN.{length, set, take, drop, replicate, getElem? as nth}
-use Rattle.rules.specs.Machine.{Value, num, obj, toLocal, toField, toRecord, Cell, gone, here, Entry, entry, Frame, frame, content, localOf, putLocal, findKey, dropKey, Target, aNumber, aRecord, stale, wrong, inCell, inLocal, numberIn, inField, target}
-use Rattle.rules.specs.Step.{pushedOn, startLocals}
-use Rattle.rules.proofs.Changes.{clash}
-use Rattle.rules.proofs.Typing.{_⊑_}
+use Rattle.semantics.specs.Machine.{Value, num, obj, toLocal, toField, toRecord, Cell, gone, here, Entry, entry, Frame, frame, content, localOf, putLocal, findKey, dropKey, Target, aNumber, aRecord, stale, wrong, inCell, inLocal, numberIn, inField, target}
+use Rattle.semantics.specs.Step.{pushedOn, startLocals}
+use Rattle.semantics.proofs.Changes.{clash}
+use Rattle.semantics.proofs.Typing.{_⊑_}
 use Rattle.state.specs.declared.Reference.{Reference}
 use Rattle.state.specs.declared.Reference.the-variants.{Local, Field, Record as Whole}
 use Rattle.state.specs.declared.Operand.{Operand}

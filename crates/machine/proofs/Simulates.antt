@@ -12,11 +12,11 @@ use lib.ListN.{length, getD, set, take, drop, replicate, length-append, getElem?
 use Rattle.arithmetic.specs.declared.Calculated.{Calculated}
 use Rattle.arithmetic.specs.declared.Calculated.the-variants.{Value as Gives, OutOfRange, Unknown}
 use Rattle.arithmetic.specs.Arithmetic.{calculation}
-use Rattle.rules.specs.Machine as Rules
-use Rattle.rules.specs.Machine.{Value, num, obj, toLocal, toField, toRecord, Cell, gone, here, Entry, entry, Frame, frame, State, state, Outcome, next, finished, stopped, stuck, content, localOf, findKey, dropKey, liveCount, Target, aNumber, aRecord, stale, wrong, inCell, target, writeFrames, writeRecords}
-use Rattle.rules.specs.Step.{pushedOn, Taken, missing, took, alsoTaken, taken, one, two, withNumber, withRecord, numberAt, recordAt, fieldsAt, withLocal, isObject, fillable, noneHeld, nothingUnder, fieldReference, underKey, startLocals, returned, push, pushAndSet, pushWithRecords, pushWithStore, goTo, lead, calculated, actions}
-use Rattle.rules.proofs.Changes.{clash}
-use Rattle.rules.proofs.Typing.{_⊑_, snoc-more, snoc-last}
+use Rattle.semantics.specs.Machine as Rules
+use Rattle.semantics.specs.Machine.{Value, num, obj, toLocal, toField, toRecord, Cell, gone, here, Entry, entry, Frame, frame, State, state, Outcome, next, finished, stopped, stuck, content, localOf, findKey, dropKey, liveCount, Target, aNumber, aRecord, stale, wrong, inCell, target, writeFrames, writeRecords}
+use Rattle.semantics.specs.Step.{pushedOn, Taken, missing, took, alsoTaken, taken, one, two, withNumber, withRecord, numberAt, recordAt, fieldsAt, withLocal, isObject, fillable, noneHeld, nothingUnder, fieldReference, underKey, startLocals, returned, push, pushAndSet, pushWithRecords, pushWithStore, goTo, lead, calculated, actions}
+use Rattle.semantics.proofs.Changes.{clash}
+use Rattle.semantics.proofs.Typing.{_⊑_, snoc-more, snoc-last}
 use Rattle.state.specs.declared.Reference.{Reference}
 use Rattle.state.specs.declared.Reference.the-variants.{Local, Field, Record as Whole}
 use Rattle.state.specs.declared.Operand.{Operand}

@@ -10,11 +10,11 @@ use native.Mathlib.Decide.{ℕ-discrete}
 use borrow.Author.Tests.{eqb-true, eqb-false, eq-eqb, ne-eqb}
 use lib.Dec.{eqb}
 use lib.ListN.{length, set, length-append, length-set, getElem? as nth}
-use Rattle.rules.specs.Machine.{Value, num, obj, toLocal, toField, toRecord, Cell, gone, here, Entry, entry, Frame, frame, content, localOf, findKey, dropKey, liveCount, lives, putField, Target, aNumber, aRecord, stale, wrong, inCell, inLocal, numberIn, inField, target}
-use Rattle.rules.proofs.Changes.{clash, live-put, live-snoc}
-use Rattle.rules.proofs.Counts.{put-set}
-use Rattle.rules.proofs.Sounds.{nth-set, nth-back, nth-put, nth-app, nth-snoc}
-use Rattle.rules.proofs.Typing.{_⊑_, snoc-more, snoc-last}
+use Rattle.semantics.specs.Machine.{Value, num, obj, toLocal, toField, toRecord, Cell, gone, here, Entry, entry, Frame, frame, content, localOf, findKey, dropKey, liveCount, lives, putField, Target, aNumber, aRecord, stale, wrong, inCell, inLocal, numberIn, inField, target}
+use Rattle.semantics.proofs.Changes.{clash, live-put, live-snoc}
+use Rattle.semantics.proofs.Counts.{put-set}
+use Rattle.semantics.proofs.Sounds.{nth-set, nth-back, nth-put, nth-app, nth-snoc}
+use Rattle.semantics.proofs.Typing.{_⊑_, snoc-more, snoc-last}
 use Rattle.state.specs.declared.Reference.{Reference}
 use Rattle.state.specs.declared.Reference.the-variants.{Local, Field, Record as Whole}
 use Rattle.state.specs.declared.Operand.{Operand}

@@ -5,11 +5,11 @@ use mathlib.Core.Option.{Option, none, some}
 use lib.ListN.{length, replicate, getElem? as nth}
 use Rattle.table.specs.declared.index.Index.{Index}
 use Rattle.table.specs.Format.{maxTypes}
-use Rattle.program.specs.Program.{procedureIn, localCount}
-use Rattle.rules.specs.Machine.{num, state, finished, stopped}
-use Rattle.rules.specs.Calls.{Call, call}
-use Rattle.rules.specs.Ascii.{ascii}
-use Rattle.rules.specs.Text.{decimal, spaced, callLine}
+use Rattle.declarations.specs.Program.{procedureIn, localCount}
+use Rattle.semantics.specs.Machine.{num, state, finished, stopped}
+use Rattle.semantics.specs.Calls.{Call, call}
+use Rattle.semantics.specs.Ascii.{ascii}
+use Rattle.semantics.specs.Text.{decimal, spaced, callLine}
 use Rattle.state.specs.declared.Reference.{Reference}
 use Rattle.state.specs.declared.Operand.{Operand}
 use Rattle.state.specs.declared.Operand.the-variants.{Empty, Number, Record, Refer}

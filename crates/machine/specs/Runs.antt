@@ -5,10 +5,10 @@ use mathlib.Core.Option.{Option}
 use lib.ListN.{length, getD}
 use Rattle.table.specs.declared.Row.{Row}
 use Rattle.table.specs.declared.index.Index.{Index}
-use Rattle.program.specs.Program.{number, procedureIn, localCount, localKind}
+use Rattle.declarations.specs.Program.{number, procedureIn, localCount, localKind}
 use Rattle.operands.specs.Flow.{effectIn}
-use Rattle.rules.specs.Limits.{budgetSpent}
-use Rattle.rules.specs.Step.{instruction}
+use Rattle.semantics.specs.Limits.{budgetSpent}
+use Rattle.semantics.specs.Step.{instruction}
 use Rattle.state.specs.declared.Operand.{Operand}
 use Rattle.machine.specs.Machine.{MFrame, mframe, MRoom, MEntry, MState, mstate, MOutcome, mnext, mfinished, mstopped, mbroken, doings}
 

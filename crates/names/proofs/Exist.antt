@@ -16,8 +16,8 @@ use Rattle.table.specs.declared.index.Index.{Index}
 use Rattle.table.specs.declared.index.ProcedureEntry.{ProcedureEntry}
 use Rattle.table.specs.Format.{typeKind, fieldKind, procedureKind, localKind, resultKind, instructionKind, recordSort, recordReference}
 use Rattle.table.specs.Rows.{rowCount, rowAt, kindAt, isKind}
-use Rattle.program.specs.Program.{typeIn, procedureIn}
-use Rattle.program.proofs.Passes.{refused-accepted, unfaulted}
+use Rattle.declarations.specs.Program.{typeIn, procedureIn}
+use Rattle.declarations.proofs.Passes.{refused-accepted, unfaulted}
 use Rattle.names.specs.Names.{Named, nothing, localNumber, fieldNumber, typeNumber, procedureNumber, target, missing, badEnd, notLower, noSuchType, noSuchName, nameFault, faultAt, namesWith}
 use Rattle.names.specs.Exist.{Exists, Good}
 

@@ -16,7 +16,7 @@ use Rattle.table.specs.declared.index.ProcedureEntry.{ProcedureEntry}
 use Rattle.table.specs.declared.index.TypeEntry.{TypeEntry}
 use Rattle.table.specs.Format.{typeKind, procedureKind}
 use Rattle.table.specs.Rows.{rowAt, kindAt, isKind}
-use Rattle.program.specs.Program.{typeIn, procedureIn}
+use Rattle.declarations.specs.Program.{typeIn, procedureIn}
 use Rattle.names.specs.Names.{Named, names, nothing, nameFault, faultAt}
 
 -- a bound on a difference is one on what it is taken from

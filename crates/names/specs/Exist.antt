@@ -12,7 +12,7 @@ use Rattle.table.specs.declared.index.ProcedureEntry.{ProcedureEntry}
 use Rattle.table.specs.Format.{typeKind, fieldKind, procedureKind, localKind, resultKind, instructionKind, recordSort, opRet, opBranch}
 use Rattle.table.specs.Flags.{hasType}
 use Rattle.table.specs.Rows.{rowAt, kindAt, isKind}
-use Rattle.program.specs.Program.{typeIn, procedureIn, fieldCount, localCount, codeLength}
+use Rattle.declarations.specs.Program.{typeIn, procedureIn, fieldCount, localCount, codeLength}
 use Rattle.names.specs.Names.{Named, nothing, localNumber, fieldNumber, typeNumber, procedureNumber, target, names}
 
 -- what b names exists in procedure p

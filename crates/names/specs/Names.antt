@@ -16,7 +16,7 @@ use Rattle.table.specs.Rows.{rowCount, rowAt, isKind}
 use Rattle.table.specs.Verdicts.{passOver}
 use Rattle.table.specs.Index.{indexOf}
 use Rattle.table.specs.Refusals.{openEnd, notDeclared}
-use Rattle.program.specs.Program.{typeIn, procedureIn, fieldCount, localCount, codeLength}
+use Rattle.declarations.specs.Program.{typeIn, procedureIn, fieldCount, localCount, codeLength}
 
 -- what the operand B of an instruction names
 pub data Named : Type 0 where

@@ -6,7 +6,7 @@ ghost use lib.Dec.{eqb, leb};
 ghost use lib.ListN.{getD};
 ghost use mathlib.Core.Bool.{_&&_};
 ghost use Rattle.table.specs.Format.{procedureKind};
-ghost use Rattle.program.specs.Program.{fieldCount};
+ghost use Rattle.declarations.specs.Program.{fieldCount};
 ghost use Rattle.table.specs.Flags.{hasType};
 ghost use Rattle.names.specs.Names.{namesWith, badEnd, notLower, noSuchType, noSuchName, names, nothing, noSuchField, missing, nameFault};
 use table::Row;

@@ -17,10 +17,10 @@ use Rattle.table.specs.declared.index.Index.{Index}
 use Rattle.table.specs.declared.index.ProcedureEntry.{ProcedureEntry}
 use Rattle.table.specs.Format.{maxOperands, opBorrowFld, opExists, opCall}
 use Rattle.table.specs.Rows.{rowCount, rowAt}
-use Rattle.program.specs.Program.{codeOf, procedureIn, isTarget}
-use Rattle.program.proofs.Passes.{unfaulted, pass-fine}
-use Rattle.kinds.specs.Kinds.{Kinds, good, bad, failed, taken, pushed, takenAll, pushedAll, topOf, faultAfter}
-use Rattle.kinds.specs.Effects.{Effect, applied, kindsAfter}
+use Rattle.declarations.specs.Program.{codeOf, procedureIn, isTarget}
+use Rattle.declarations.proofs.Passes.{unfaulted, pass-fine}
+use Rattle.effects.specs.Kinds.{Kinds, good, bad, failed, taken, pushed, takenAll, pushedAll, topOf, faultAfter}
+use Rattle.effects.specs.Effects.{Effect, applied, kindsAfter}
 use Rattle.operands.specs.Operands.{namedType, lastOfBlock, foreignType, foreign, after, kindsBefore, codeFault, operandsWith}
 use Rattle.operands.specs.Flow.{onto, effectIn, Flow}
 

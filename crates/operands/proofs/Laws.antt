@@ -13,14 +13,14 @@ use lib.Seq.{getD-set-same, getD-set-other}
 use Rattle.laws.proofs.Lists.{is-tabulate, getD-tabulate, length-tabulate}
 use Rattle.table.specs.declared.Row.{Row}
 use Rattle.table.specs.Rows.{rowAt, rowCount}
-use Rattle.program.specs.Program.{targetMarks, targetBelow, isTarget, jumpsTo, Marked}
-use Rattle.program.proofs.Laws.{target-more}
+use Rattle.declarations.specs.Program.{targetMarks, targetBelow, isTarget, jumpsTo, Marked}
+use Rattle.declarations.proofs.Laws.{target-more}
 use Rattle.table.specs.declared.index.Index.{Index}
 use Rattle.table.specs.declared.index.TypeEntry.{TypeEntry}
 use Rattle.table.specs.declared.index.ProcedureEntry.{ProcedureEntry}
-use Rattle.program.specs.Program.{typeIn, procedureIn, codeOf}
-use Rattle.kinds.specs.Kinds.{Kinds, good, faultAfter}
-use Rattle.kinds.specs.Effects.{kindsAfter}
+use Rattle.declarations.specs.Program.{typeIn, procedureIn, codeOf}
+use Rattle.effects.specs.Kinds.{Kinds, good, faultAfter}
+use Rattle.effects.specs.Effects.{kindsAfter}
 use Rattle.operands.specs.Operands.{lastOfBlock, endsBlock, namedType, foreign, after, kindsBefore, codeFault}
 
 pub marks-none : (c : List ℕ) (m : List Bool) → m ≡ targetMarks c m 0

@@ -10,9 +10,9 @@ use Rattle.table.specs.declared.index.Index.{Index}
 use Rattle.table.specs.declared.index.ProcedureEntry.{ProcedureEntry}
 use Rattle.table.specs.Format.{maxOperands, opBorrowFld, opExists, opCall}
 use Rattle.table.specs.Rows.{rowAt}
-use Rattle.program.specs.Program.{codeOf, procedureIn, isTarget}
-use Rattle.kinds.specs.Kinds.{good}
-use Rattle.kinds.specs.Effects.{Effect, effectOf}
+use Rattle.declarations.specs.Program.{codeOf, procedureIn, isTarget}
+use Rattle.effects.specs.Kinds.{good}
+use Rattle.effects.specs.Effects.{Effect, effectOf}
 use Rattle.operands.specs.Operands.{namedType, kindsBefore, lastOfBlock}
 
 -- kinds in the order in which they are pushed, on top of others that are listed the top first

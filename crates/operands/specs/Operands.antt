@@ -12,9 +12,9 @@ use Rattle.table.specs.Format.{opBorrowFld, opExists, opCall, opRet, opBranchCo
 use Rattle.table.specs.Rows.{rowCount, rowAt}
 use Rattle.table.specs.Index.{indexOf}
 use Rattle.table.specs.Flags.{isPublic}
-use Rattle.program.specs.Program.{typeIn, procedureIn, codeOf, codePass, isTarget}
-use Rattle.kinds.specs.Kinds.{Kinds, good, faultAfter}
-use Rattle.kinds.specs.Effects.{kindsAfter}
+use Rattle.declarations.specs.Program.{typeIn, procedureIn, codeOf, codePass, isTarget}
+use Rattle.effects.specs.Kinds.{Kinds, good, faultAfter}
+use Rattle.effects.specs.Effects.{kindsAfter}
 
 -- the type that an instruction names: B is type times 8 plus field for BorrowFld, else the type
 unfoldable pub namedType : Index → Row → TypeEntry

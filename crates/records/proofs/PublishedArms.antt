@@ -11,7 +11,7 @@ use borrow.Author.Tests.{lt-ltb, le-ltb, le-leb, lt-leb}
 use lib.Dec.{ltb, leb}
 use lib.ListN.{length, getD, drop}
 use Rattle.arithmetic.specs.Arithmetic.{truth}
-use Rattle.rules.specs.Limits.{keyTaken, noSuchKey, tooManyEntries}
+use Rattle.semantics.specs.Limits.{keyTaken, noSuchKey, tooManyEntries}
 use Rattle.state.specs.declared.Reference.the-variants.{Record as Whole}
 use Rattle.state.specs.declared.Operand.{Operand}
 use Rattle.state.specs.declared.Operand.the-variants.{Empty, Number, Record, Refer}

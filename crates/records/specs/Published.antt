@@ -5,7 +5,7 @@ use mathlib.Core.List.{List}
 use lib.Dec.{leb, ltb}
 use lib.ListN.{getD}
 use Rattle.arithmetic.specs.Arithmetic.{truth}
-use Rattle.rules.specs.Limits.{keyTaken, noSuchKey, tooManyEntries}
+use Rattle.semantics.specs.Limits.{keyTaken, noSuchKey, tooManyEntries}
 use Rattle.state.specs.declared.Reference.the-variants.{Record as Whole}
 use Rattle.state.specs.declared.Operand.{Operand}
 use Rattle.state.specs.declared.Operand.the-variants.{Empty, Number, Record, Refer}

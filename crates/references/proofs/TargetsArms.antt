@@ -11,8 +11,8 @@ use borrow.Author.Tests.{lt-ltb, le-ltb, eq-eqb, ne-eqb}
 use lib.Dec.{eqb, ltb}
 use lib.ListN.{getD, set, drop, getElem? as nth, length-set, List·getD-eq-default}
 use lib.Seq.{getD-set-other}
-use Rattle.rules.specs.Limits.{staleReference}
-use Rattle.rules.proofs.Changes.{clash}
+use Rattle.semantics.specs.Limits.{staleReference}
+use Rattle.semantics.proofs.Changes.{clash}
 use Rattle.state.specs.declared.Reference.{Reference}
 use Rattle.state.specs.declared.Reference.the-variants.{Local, Field, Record as Whole}
 use Rattle.state.specs.declared.Operand.{Operand}

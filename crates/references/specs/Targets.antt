@@ -4,7 +4,7 @@ use mathlib.Core.Bool.{cond}
 use mathlib.Core.List.{List}
 use lib.Dec.{eqb, ltb}
 use lib.ListN.{getD, set}
-use Rattle.rules.specs.Limits.{staleReference}
+use Rattle.semantics.specs.Limits.{staleReference}
 use Rattle.state.specs.declared.Reference.{Reference}
 use Rattle.state.specs.declared.Reference.the-variants.{Local, Field, Record as Whole}
 use Rattle.state.specs.declared.Operand.{Operand}

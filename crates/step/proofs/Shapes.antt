@@ -11,7 +11,7 @@ use lib.ListN.{length, getD}
 use Rattle.laws.proofs.Cases.{_▸_, Each, each}
 use Rattle.arithmetic.specs.declared.Calculated.{Calculated}
 use Rattle.arithmetic.specs.declared.Calculated.the-variants.{Value, OutOfRange, Unknown}
-use Rattle.rules.specs.Limits.{outOfRange, staleReference, keyTaken, noSuchKey, tooManyFrames, tooManyRecords, tooManyEntries}
+use Rattle.semantics.specs.Limits.{outOfRange, staleReference, keyTaken, noSuchKey, tooManyFrames, tooManyRecords, tooManyEntries}
 use Rattle.state.specs.Entries.{addedIn}
 use Rattle.state.specs.declared.Reference.{Reference}
 use Rattle.state.specs.declared.Operand.{Operand}

@@ -5,7 +5,7 @@ use lib.ListN.{getD}
 use Rattle.table.specs.declared.Row.{Row}
 use Rattle.table.specs.declared.index.TypeEntry.{TypeEntry}
 use Rattle.table.specs.declared.index.ProcedureEntry.{ProcedureEntry}
-use Rattle.program.specs.Program.{localKind, localCount, parametersEnd}
+use Rattle.declarations.specs.Program.{localKind, localCount, parametersEnd}
 use Rattle.state.specs.declared.Operand.{Operand}
 use Rattle.state.specs.declared.frames.State.{State}
 use Rattle.state.specs.Frames.{goneTo}

@@ -13,8 +13,8 @@ use Rattle.table.specs.declared.index.TypeEntry.{TypeEntry}
 use Rattle.table.specs.declared.index.ProcedureEntry.{ProcedureEntry}
 use Rattle.table.specs.Format.{pastOpcodes}
 use Rattle.table.specs.Rows.{rowCount}
-use Rattle.program.specs.Program.{number, kindsFrom, kindsOf, isParameter, parametersEnd, parameterCount, codeOf}
-use Rattle.kinds.specs.Effects.{effects, effectOf, noEffect}
+use Rattle.declarations.specs.Program.{number, kindsFrom, kindsOf, isParameter, parametersEnd, parameterCount, codeOf}
+use Rattle.effects.specs.Effects.{effects, effectOf, noEffect}
 use Rattle.flow.specs.Steps.{nexts}
 use Rattle.flow.specs.Places.{markNodes}
 use Rattle.flow.proofs.Same.{marks-same}

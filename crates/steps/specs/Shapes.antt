@@ -8,8 +8,8 @@ use Rattle.laws.specs.Lists.{tabulate}
 use Rattle.table.specs.declared.Row.{Row}
 use Rattle.table.specs.declared.index.TypeEntry.{TypeEntry}
 use Rattle.table.specs.declared.index.ProcedureEntry.{ProcedureEntry}
-use Rattle.program.specs.Program.{number}
-use Rattle.kinds.specs.Effects.{effectOf}
+use Rattle.declarations.specs.Program.{number}
+use Rattle.effects.specs.Effects.{effectOf}
 use Rattle.flow.specs.Steps.{Step}
 use Rattle.steps.specs.declared.Shape.{Shape}
 use Rattle.steps.specs.Steps.{Marking}

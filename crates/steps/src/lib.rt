@@ -2,8 +2,8 @@
 ghost use mathlib.Core.Path.{_≡_};
 ghost use Prim.Native.Nat.{_+_, _-_, _<_};
 ghost use lib.ListN.{length};
-ghost use Rattle.program.specs.Program.{number, parametersEnd};
-ghost use Rattle.kinds.specs.Effects.{effectOf};
+ghost use Rattle.declarations.specs.Program.{number, parametersEnd};
+ghost use Rattle.effects.specs.Effects.{effectOf};
 ghost use Rattle.steps.specs.Steps.{Marking, stepOf};
 ghost use Rattle.steps.specs.Shapes.{viewStep, Makes};
 use table::Row;
@@ -57,7 +57,7 @@ pub fn fields_of(y: TypeEntry) -> u16
 pub fn parameters_of(table: &[u8], p: ProcedureEntry) -> u16
     ensures { λ r. ⌜ r ≡ parametersEnd (now (table .entry)) p - (p .row + 1) ⌝ }
 {
-    let end = program::parameters_end(table, p);
+    let end = declarations::parameters_end(table, p);
     let start = (p.row as usize) + 1;
     if start <= end {
         (end - start) as u16

@@ -8,7 +8,7 @@ use native.Mathlib.Decide.{decLt}
 use native.Mathlib.Omega.{arith}
 use borrow.Author.Tests.{lt-ltb, le-ltb}
 use lib.Dec.{ltb}
-use Rattle.rules.specs.Text.{digits, decimal}
+use Rattle.semantics.specs.Text.{digits, decimal}
 
 -- the first number with more than k digits
 abbrev pub tens : ℕ → ℕ

@@ -5,9 +5,9 @@ use mathlib.Core.List.{List, [], _∷_, _++_, map, append-assoc, append-nil}
 use native.Mathlib.Numerals.{add-one}
 use lib.ListN.{length, take, getD}
 use lib.Seq.{take-suc}
-use Rattle.rules.specs.Machine.{num, State, finished, stopped}
-use Rattle.rules.specs.Ascii.{ascii}
-use Rattle.rules.specs.Text.{decimal, spaced, values, callLine}
+use Rattle.semantics.specs.Machine.{num, State, finished, stopped}
+use Rattle.semantics.specs.Ascii.{ascii}
+use Rattle.semantics.specs.Text.{decimal, spaced, values, callLine}
 
 -- numbers, each with a space before it
 abbrev pub numbers : List ℕ → List ℕ

@@ -4,9 +4,9 @@ ghost use mathlib.Core.Path.{_≡_};
 ghost use mathlib.Core.List.{[], _∷_, _++_, map};
 ghost use Prim.Native.Nat.{ℕ};
 ghost use lib.ListN.{take};
-ghost use Rattle.rules.specs.Machine.{State, num, finished, stopped};
-ghost use Rattle.rules.specs.Ascii.{ascii};
-ghost use Rattle.rules.specs.Text.{decimal, spaced, values, callLine};
+ghost use Rattle.semantics.specs.Machine.{State, num, finished, stopped};
+ghost use Rattle.semantics.specs.Ascii.{ascii};
+ghost use Rattle.semantics.specs.Text.{decimal, spaced, values, callLine};
 ghost use Rattle.text.specs.Placing.{placed};
 use table::format;
 

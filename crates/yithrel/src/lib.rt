@@ -1,8 +1,8 @@
 // The functions that a host written in C calls.
 ghost use mathlib.Core.Path.{_≡_};
 ghost use mathlib.Core.List.{List};
-ghost use Rattle.rules.specs.Machine.{Entry};
-ghost use Rattle.rules.specs.Run.{runOf};
+ghost use Rattle.semantics.specs.Machine.{Entry};
+ghost use Rattle.semantics.specs.Run.{runOf};
 ghost use Rattle.judging.specs.Judging.{judgeOf, answerOf};
 
 // Judges a table. The answer is number * 2^32 + value: number 0 with the number of rows, else the refusal with its row.
@@ -20,6 +20,6 @@ pub extern "C" fn yithrel_judge(table: &[u8]) -> u64
 pub extern "C" fn yithrel_run(table: &[u8], list: &[u8], text: &mut [u8]) -> u64
     ensures { λ r. ⌜ (r ≡ answerOf ((runOf (λ (es : List Entry). es) (now (table .entry)) (now (list .entry)) (now (text .entry))) .answer)) × (now (text .exit) ≡ (runOf (λ (es : List Entry). es) (now (table .entry)) (now (list .entry)) (now (text .entry))) .buffer) ⌝ }
 {
-    let answer = runs::run_list(table, list, text);
+    let answer = running::run_list(table, list, text);
     4294967296 * (answer.number() as u64) + (answer.value() as u64)
 }

@@ -1,7 +1,7 @@
 use Prim.Native.Nat.{_-_}
 use mathlib.Core.Path.{_≡_, refl, sym, _∙_}
-use Rattle.program.specs.Program.{kindsOf}
-use Rattle.rules.specs.Calls.{allNumbers}
+use Rattle.declarations.specs.Program.{kindsOf}
+use Rattle.semantics.specs.Calls.{allNumbers}
 use Rattle.calls.proofs.Laws.{numbers-more, numbers-not, numbers-end}
 use borrow.Author.Needs.{needs}
 use native.Mathlib.Omega.{arith}

@@ -3,7 +3,7 @@ use mathlib.Core.Path.{_≡_, ap}
 use lib.ListN.{length}
 use Rattle.table.specs.Rows.{rowCount}
 use Rattle.table.proofs.Laws.{is-kind, not-kind}
-use Rattle.rules.specs.Calls.{argumentRow, arguments}
+use Rattle.semantics.specs.Calls.{argumentRow, arguments}
 use Rattle.calls.proofs.Laws.{arguments-stop, arguments-end, count-more}
 use borrow.Author.Needs.{needs}
 use native.Mathlib.Omega.{arith}

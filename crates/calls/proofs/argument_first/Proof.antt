@@ -1,5 +1,5 @@
 use borrow.Author.Tests.{eq-eqb, ne-eqb}
-use Rattle.rules.specs.Calls.{argumentFirst}
+use Rattle.semantics.specs.Calls.{argumentFirst}
 use Rattle.calls.proofs.argument_first.Statement.{statement}
 use Rattle.calls.proofs.argument_first.Tie as tie
 

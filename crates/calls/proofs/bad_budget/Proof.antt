@@ -1,5 +1,5 @@
 use borrow.Author.Tests.{eq-eqb, ne-eqb}
-use Rattle.rules.specs.Calls.{badBudget}
+use Rattle.semantics.specs.Calls.{badBudget}
 use Rattle.calls.proofs.bad_budget.Statement.{statement}
 use Rattle.calls.proofs.bad_budget.Tie as tie
 

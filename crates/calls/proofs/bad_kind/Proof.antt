@@ -1,5 +1,5 @@
 use borrow.Author.Tests.{eq-eqb, ne-eqb}
-use Rattle.rules.specs.Calls.{badKind}
+use Rattle.semantics.specs.Calls.{badKind}
 use Rattle.calls.proofs.bad_kind.Statement.{statement}
 use Rattle.calls.proofs.bad_kind.Tie as tie
 

@@ -2,7 +2,7 @@ use Prim.Native.Nat.{_+_, _-_}
 use mathlib.Core.Path.{_≡_, sym, _∙_}
 use borrow.Author.Tests.{eq-eqb, ne-eqb}
 use Rattle.table.specs.Rows.{rowCount}
-use Rattle.rules.specs.Calls.{arguments, badCall, listFault}
+use Rattle.semantics.specs.Calls.{arguments, badCall, listFault}
 use Rattle.calls.proofs.Laws.{bad-call-is}
 use borrow.Author.Needs.{needs}
 use Rattle.calls.proofs.list_fault.Statement.{statement}

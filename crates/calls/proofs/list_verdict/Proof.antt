@@ -4,7 +4,7 @@ use borrow.Author.Tests.{lt-ltb, le-ltb, ne-eqb}
 use Rattle.laws.proofs.First.{from, fine, faulty, done, whole}
 use Rattle.table.specs.declared.Verdict.the-variants.{Accepted, Refused}
 use Rattle.table.specs.Rows.{rowCount}
-use Rattle.rules.specs.Calls.{listFault, listOf}
+use Rattle.semantics.specs.Calls.{listFault, listOf}
 use borrow.Author.Needs.{needs}
 use native.Mathlib.Omega.{arith}
 use Rattle.calls.proofs.list_verdict.Statement.{statement}

@@ -1,5 +1,5 @@
 use mathlib.Core.Path.{sym, _∙_}
-use Rattle.program.specs.Program.{parameterKinds, resultKinds}
+use Rattle.declarations.specs.Program.{parameterKinds, resultKinds}
 use borrow.Author.Needs.{needs}
 use Rattle.calls.proofs.not_numbers.Statement.{statement}
 use Rattle.calls.proofs.not_numbers.Tie as tie

@@ -1,6 +1,6 @@
 use mathlib.Core.Path.{_≡_, sym, _∙_}
 use lib.ListN.{length, length-map, List·getD-eq-default}
-use Rattle.program.specs.Program.{procedureIn}
+use Rattle.declarations.specs.Program.{procedureIn}
 use borrow.Author.Needs.{needs}
 use native.Mathlib.Omega.{arith}
 use Rattle.calls.proofs.procedure_in.Statement.{statement}

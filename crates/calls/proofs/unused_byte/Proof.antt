@@ -1,6 +1,6 @@
 use mathlib.Core.Bool.{or-false}
 use borrow.Author.Tests.{ne-eqb}
-use Rattle.rules.specs.Calls.{unusedByte}
+use Rattle.semantics.specs.Calls.{unusedByte}
 use Rattle.calls.proofs.unused_byte.Statement.{statement}
 use Rattle.calls.proofs.unused_byte.Tie as tie
 

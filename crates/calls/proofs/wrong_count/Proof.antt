@@ -1,4 +1,4 @@
-use Rattle.program.specs.Program.{parameterKinds}
+use Rattle.declarations.specs.Program.{parameterKinds}
 use Rattle.steps.proofs.Laws.{length-kinds}
 use borrow.Author.Needs.{needs}
 use Rattle.calls.proofs.wrong_count.Statement.{statement}

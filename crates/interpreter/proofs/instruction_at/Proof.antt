@@ -2,7 +2,7 @@ use mathlib.Core.Path.{ap, _∙_}
 use Prim.Native.Nat.{ℕ}
 use mathlib.Core.List.{List}
 use Rattle.table.specs.Rows.{rowAt}
-use Rattle.program.specs.Program.{codeOf}
+use Rattle.declarations.specs.Program.{codeOf}
 use borrow.Author.Needs.{needs}
 use Rattle.interpreter.proofs.instruction_at.Statement.{statement}
 use Rattle.interpreter.proofs.instruction_at.Tie as tie

@@ -4,7 +4,7 @@ use mathlib.Core.List.{List}
 use lib.ListN.{length, getD, drop}
 use Rattle.table.specs.declared.Row.{Row}
 use Rattle.table.specs.Rows.{rowAt, rowCount}
-use Rattle.rules.specs.Calls.{arguments}
+use Rattle.semantics.specs.Calls.{arguments}
 use Rattle.calls.proofs.Laws.{argument-at, arguments-end}
 use Rattle.state.specs.Coding.{values, valueOf}
 use Rattle.state.specs.Cells.{cellsOf}

@@ -1,6 +1,6 @@
 use borrow.Author.Tests.{ne-eqb}
 use borrow.Author.Needs.{needs}
-use Rattle.program.specs.Program.{fieldRow}
+use Rattle.declarations.specs.Program.{fieldRow}
 use Rattle.leaks.specs.Leaks.{borrowsGuarded}
 use Rattle.leaks.proofs.borrows_guarded.Statement.{statement}
 use Rattle.leaks.proofs.borrows_guarded.Tie as tie

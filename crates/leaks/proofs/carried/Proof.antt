@@ -3,7 +3,7 @@ use mathlib.Core.Path.{ap, sym}
 use mathlib.Core.Bool.{Bool, cond}
 use mathlib.Core.List.{List, [], _∷_}
 use Prim.Native.Nat.{ℕ}
-use Rattle.spread.specs.Moves.{placesOf, added}
+use Rattle.flow.specs.Moves.{placesOf, added}
 use Rattle.leaks.proofs.carried.Statement.{statement}
 use Rattle.leaks.proofs.carried.Tie as tie
 

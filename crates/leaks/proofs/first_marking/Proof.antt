@@ -5,8 +5,8 @@ use native.Mathlib.Omega.{arith}
 use borrow.Author.Needs.{needs}
 use borrow.Author.Tests.{not-true, not-false}
 use lib.ListN.{length, length-map}
-use Rattle.program.specs.Program.{codeOf, procedureIn}
-use Rattle.program.proofs.Laws.{passFrom, pass-on, passes-at, passes-entry}
+use Rattle.declarations.specs.Program.{codeOf, procedureIn}
+use Rattle.declarations.proofs.Laws.{passFrom, pass-on, passes-at, passes-entry}
 use Rattle.leaks.specs.Within.{leakWithin, leaksFrom}
 use Rattle.leaks.proofs.Unmarked.{clear-verdict}
 use Rattle.leaks.proofs.first_marking.Statement.{statement}

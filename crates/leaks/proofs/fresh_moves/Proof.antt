@@ -5,7 +5,7 @@ use mathlib.Core.Logic.{⊎-elim}
 use native.Mathlib.Omega.{arith}
 use borrow.Author.Needs.{needs}
 use lib.ListN.{length-map}
-use Rattle.spread.specs.Moves.{placesOf, added}
+use Rattle.flow.specs.Moves.{placesOf, added}
 use Rattle.leaks.proofs.Moves.{Placed, fresh-start, fresh-none, fresh-unmarked, fresh-added, fresh-past, fresh-end}
 use Rattle.leaks.proofs.fresh_moves.Statement.{statement}
 use Rattle.leaks.proofs.fresh_moves.Tie as tie

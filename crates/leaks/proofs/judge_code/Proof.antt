@@ -5,7 +5,7 @@ use native.Mathlib.Omega.{arith}
 use borrow.Author.Needs.{needs}
 use Rattle.laws.proofs.First.{from, fine, faulty, done, whole}
 use Rattle.table.specs.declared.Verdict.the-variants.{Accepted, Refused}
-use Rattle.program.specs.Program.{codeVerdict}
+use Rattle.declarations.specs.Program.{codeVerdict}
 use Rattle.leaks.specs.Within.{stepsOf}
 use Rattle.leaks.specs.Leaks.{leakIn}
 use Rattle.leaks.proofs.Laws.{fault-is}

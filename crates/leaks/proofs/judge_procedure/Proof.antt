@@ -8,9 +8,9 @@ use lib.Seq.{length-take-le, take-at}
 use lib.ListN.{length, take, drop}
 use Rattle.laws.specs.First.{firstFault}
 use Rattle.table.specs.Rows.{rowCount}
-use Rattle.program.specs.Program.{codeVerdict, parameterCount}
-use Rattle.program.specs.Limits.{overLimits}
-use Rattle.program.proofs.Laws.{limits-held, limited-in, limited-out}
+use Rattle.declarations.specs.Program.{codeVerdict, parameterCount}
+use Rattle.declarations.specs.Limits.{overLimits}
+use Rattle.declarations.proofs.Laws.{limits-held, limited-in, limited-out}
 use Rattle.leaks.proofs.Laws.{procedure-verdict, parameters-fit}
 use Rattle.leaks.proofs.Unmarked.{quiet-verdict, unmarked-verdict}
 use Rattle.leaks.proofs.judge_procedure.Statement.{statement}

@@ -5,8 +5,8 @@ use mathlib.Core.Logic.{⊎-elim}
 use native.Mathlib.Omega.{arith}
 use borrow.Author.Needs.{needs}
 use lib.ListN.{length, getD, length-map, List·getD-eq-default}
-use Rattle.program.specs.Program.{codeOf, procedureIn}
-use Rattle.program.proofs.Laws.{passFrom, pass-end, pass-refused, pass-on, passes-past, passes-all, passes-at, passes-entry}
+use Rattle.declarations.specs.Program.{codeOf, procedureIn}
+use Rattle.declarations.proofs.Laws.{passFrom, pass-end, pass-refused, pass-on, passes-past, passes-all, passes-at, passes-entry}
 use Rattle.leaks.specs.Leaks.{inTrusted}
 use Rattle.leaks.specs.Within.{leakWithin, leaksFrom}
 use Rattle.leaks.proofs.Laws.{trusted-verdict, guest-verdict}

@@ -2,8 +2,8 @@ use mathlib.Core.Path.{sym, _∙_}
 use native.Mathlib.Omega.{arith}
 use borrow.Author.Needs.{needs}
 use lib.ListN.{length-take}
-use Rattle.program.specs.Program.{codePass}
-use Rattle.program.proofs.Laws.{passFrom, pass-end}
+use Rattle.declarations.specs.Program.{codePass}
+use Rattle.declarations.proofs.Laws.{passFrom, pass-end}
 use Rattle.leaks.specs.Within.{leakWithin, leaksFrom, leaksWithin}
 use Rattle.leaks.proofs.leaks_with.Statement.{statement}
 use Rattle.leaks.proofs.leaks_with.Tie as tie

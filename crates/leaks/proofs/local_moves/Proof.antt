@@ -1,6 +1,6 @@
 use mathlib.Core.Path.{_∙_}
 use borrow.Author.Needs.{needs}
-use Rattle.spread.specs.Moves.{placesOf, added}
+use Rattle.flow.specs.Moves.{placesOf, added}
 use Rattle.steps.specs.Shapes.{viewStep}
 use Rattle.leaks.proofs.Moves.{local-other, local-moved, local-copied, local-stored, local-left}
 use Rattle.leaks.proofs.local_moves.Statement.{statement}

@@ -2,7 +2,7 @@ use Prim.Native.Nat.{ℕ, _+_, _-_}
 use mathlib.Core.Logic.{inl, inr}
 use mathlib.Core.Path.{ap, _∙_}
 use borrow.Author.Needs.{needs}
-use Rattle.spread.specs.Moves.{placesOf, added}
+use Rattle.flow.specs.Moves.{placesOf, added}
 use Rattle.steps.specs.Shapes.{viewStep}
 use Rattle.leaks.proofs.Moves.{operand-stored, operand-lost, operand-within, operand-past, length-fresh}
 use Rattle.leaks.proofs.operand_moves.Statement.{statement}

@@ -6,7 +6,7 @@ use mathlib.Core.Bool.{false}
 use native.Mathlib.Omega.{arith}
 use borrow.Author.Needs.{needs}
 use lib.ListN.{length, length-map, List·getD-eq-default}
-use Rattle.program.specs.Program.{typeIn, procedureIn}
+use Rattle.declarations.specs.Program.{typeIn, procedureIn}
 use Rattle.steps.specs.Steps.{stepAt}
 use Rattle.leaks.specs.Leaks.{guardedMarks}
 use Rattle.leaks.specs.Within.{stepsOf}

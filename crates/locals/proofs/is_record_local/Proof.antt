@@ -1,4 +1,4 @@
-use Rattle.program.specs.Program.{isRecord, localKind}
+use Rattle.declarations.specs.Program.{isRecord, localKind}
 use borrow.Author.Needs.{needs}
 use Rattle.locals.proofs.is_record_local.Statement.{statement}
 use Rattle.locals.proofs.is_record_local.Tie as tie

@@ -1,6 +1,6 @@
 -- The invariant: no instruction before instruction i is faulty.
 use Rattle.locals.specs.Faults.{faultFrom}
-use Rattle.program.specs.Program.{codeVerdict}
+use Rattle.declarations.specs.Program.{codeVerdict}
 use Rattle.table.specs.Rows.{rowAt, rowCount}
 use Rattle.table.specs.declared.Verdict.the-variants.{Accepted, Refused}
 use Rattle.laws.proofs.First.{from, fine, faulty, done, whole}

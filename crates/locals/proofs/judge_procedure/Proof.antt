@@ -2,8 +2,8 @@ use Prim.Native.Nat.{_≤_}
 use mathlib.Core.Path.{sym, _∙_}
 use Rattle.locals.proofs.Laws.{nodes-fit, procedure-verdict}
 use Rattle.laws.specs.First.{firstFault}
-use Rattle.program.specs.Program.{codeVerdict, localCount}
-use Rattle.program.proofs.Laws.{limits-held, limited-in, limited-out}
+use Rattle.declarations.specs.Program.{codeVerdict, localCount}
+use Rattle.declarations.proofs.Laws.{limits-held, limited-in, limited-out}
 use Rattle.table.specs.Rows.{rowCount}
 use native.Mathlib.Omega.{arith}
 use borrow.Author.Needs.{needs}

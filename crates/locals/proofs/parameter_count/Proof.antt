@@ -1,4 +1,4 @@
-use Rattle.program.specs.Program.{parameterCount}
+use Rattle.declarations.specs.Program.{parameterCount}
 use native.Mathlib.Omega.{arith}
 use borrow.Author.Needs.{needs}
 use Rattle.locals.proofs.parameter_count.Statement.{statement}

@@ -1,5 +1,5 @@
 -- The invariant: the set has those of the locals below l that belong to it.
-use Rattle.program.specs.Program.{isRecord, localKind}
+use Rattle.declarations.specs.Program.{isRecord, localKind}
 use Rattle.locals.specs.Sets.{those}
 use Rattle.locals.proofs.Sets.{those-none, those-more}
 use mathlib.Core.Logic.{⊎-elim, inl, inr}

@@ -11,7 +11,7 @@ use Rattle.reach.specs.Search.{Searched}
 use Rattle.reach.proofs.Laws.{count-le}
 use Rattle.table.specs.Rows.{rowCount}
 use Rattle.flow.specs.Places.{statusAfter}
-use Rattle.spread.specs.Moves.{placesOf}
+use Rattle.flow.specs.Moves.{placesOf}
 use Rattle.locals.specs.Locals.{rowStep}
 use Rattle.locals.proofs.Laws.{Spreading, Waiting, Followed, start-below, after-below, one-place, local-start, local-on, local-still, local-rests, local-tail, local-queued, local-next, local-found}
 use Rattle.locals.proofs.spread_local.Statement.{statement}

@@ -1,6 +1,6 @@
 use borrow.Author.Tests.{le-leb, lt-leb}
 use borrow.Author.Needs.{needs}
-use Rattle.program.specs.Program.{fieldCount}
+use Rattle.declarations.specs.Program.{fieldCount}
 use Rattle.names.proofs.Laws.{leb-minus}
 use Rattle.names.proofs.bad_field_number.Statement.{statement}
 use Rattle.names.proofs.bad_field_number.Tie as tie

@@ -2,7 +2,7 @@ use mathlib.Core.Path.{refl}
 use native.Mathlib.Omega.{arith}
 use borrow.Author.Needs.{needs}
 use Rattle.laws.specs.Lists.{tabulate}
-use Rattle.program.specs.Program.{localCount, codeLength}
+use Rattle.declarations.specs.Program.{localCount, codeLength}
 use Rattle.names.specs.Names.{names, missing, nothing, localNumber, fieldNumber, typeNumber, procedureNumber, target}
 use Rattle.names.proofs.Laws.{leb-minus, named-alike}
 use Rattle.names.proofs.bad_operand.Statement.{statement}

@@ -12,7 +12,7 @@ use Rattle.laws.proofs.Lists.{count-few}
 use Rattle.table.specs.declared.Verdict.the-variants.{Accepted, Refused}
 use Rattle.table.specs.Format.{typeKind, procedureKind}
 use Rattle.table.specs.Rows.{isKind}
-use Rattle.program.specs.Program.{typeIn, procedureIn}
+use Rattle.declarations.specs.Program.{typeIn, procedureIn}
 use Rattle.names.specs.Names.{namesWith, faultAt}
 use Rattle.names.proofs.Laws.{count-next, own-next, fault-here}
 use Rattle.names.proofs.names_with.Statement.{statement}

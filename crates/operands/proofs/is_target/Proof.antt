@@ -6,7 +6,7 @@ use borrow.Author.Needs.{needs}
 use native.Mathlib.Omega.{arith}
 use Rattle.table.specs.declared.Row.{Row}
 use Rattle.table.specs.Rows.{rowAt, rowCount}
-use Rattle.program.specs.Program.{isTarget, targetBelow, jumpsTo}
+use Rattle.declarations.specs.Program.{isTarget, targetBelow, jumpsTo}
 use Rattle.operands.proofs.Laws.{target-none, target-next, target-found}
 use Rattle.operands.proofs.is_target.Statement.{statement}
 use Rattle.operands.proofs.is_target.Tie as tie

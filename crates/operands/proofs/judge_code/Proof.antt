@@ -9,8 +9,8 @@ use borrow.Author.Needs.{needs}
 use lib.ListN.{length, length-map, List·getD-eq-default}
 use Rattle.laws.proofs.First.{from, fine, faulty, done, whole}
 use Rattle.table.specs.declared.Verdict.the-variants.{Accepted, Refused}
-use Rattle.program.specs.Program.{typeIn, procedureIn, codeVerdict}
-use Rattle.kinds.specs.Kinds.{view, good, topFirst}
+use Rattle.declarations.specs.Program.{typeIn, procedureIn, codeVerdict}
+use Rattle.effects.specs.Kinds.{view, good, topFirst}
 use Rattle.operands.specs.Operands.{codeFault, kindsBefore}
 use Rattle.operands.proofs.Laws.{here}
 use Rattle.operands.proofs.judge_code.Statement.{statement}

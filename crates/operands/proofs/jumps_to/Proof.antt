@@ -1,6 +1,6 @@
 use mathlib.Core.Path.{sym, _∙_}
 use borrow.Author.Needs.{needs}
-use Rattle.program.specs.Program.{jumpsTo}
+use Rattle.declarations.specs.Program.{jumpsTo}
 use Rattle.operands.proofs.jumps_to.Statement.{statement}
 use Rattle.operands.proofs.jumps_to.Tie as tie
 

@@ -1,6 +1,6 @@
 use Rattle.table.specs.Rows.{rowCount}
 use Rattle.operands.proofs.Laws.{marks-none, marks-length, mark-other, mark-jump, no-jump, far-jump}
-use Rattle.program.specs.Program.{targetMarks}
+use Rattle.declarations.specs.Program.{targetMarks}
 use mathlib.Core.Logic.{⊎-elim}
 use mathlib.Core.Path.{_≡_, refl, sym, _∙_}
 use Prim.Native.Nat.{_≤_, _-_}

@@ -1,6 +1,6 @@
 use Rattle.operands.specs.Operands.{operandsWith, codeFault}
-use Rattle.program.proofs.Laws.{passFrom, pass-start, pass-end, pass-refused, pass-on, passes-past, passes-all, passes-at, passes-entry, on-part}
-use Rattle.program.specs.Program.{codeOf, procedureIn}
+use Rattle.declarations.proofs.Laws.{passFrom, pass-start, pass-end, pass-refused, pass-on, passes-past, passes-all, passes-at, passes-entry, on-part}
+use Rattle.declarations.specs.Program.{codeOf, procedureIn}
 use lib.ListN.{length, length-map}
 use mathlib.Core.Path.{_≡_, sym, _∙_}
 use Prim.Native.Nat.{_≤_, _-_}

@@ -1,9 +1,9 @@
 use mathlib.Core.Path.{refl, sym, _∙_}
 use borrow.Author.Needs.{needs}
-use Rattle.program.specs.Program.{fieldKinds, parameterKinds, resultKinds}
+use Rattle.declarations.specs.Program.{fieldKinds, parameterKinds, resultKinds}
 use Rattle.laws.proofs.Cases.{above}
 use Rattle.table.specs.Format.{pastOpcodes}
-use Rattle.kinds.specs.Effects.{effects}
+use Rattle.effects.specs.Effects.{effects}
 use Rattle.steps.proofs.Laws.{length-kinds, listed, unlisted}
 use Rattle.steps.proofs.counts_of.Statement.{statement}
 use Rattle.steps.proofs.counts_of.Tie as tie

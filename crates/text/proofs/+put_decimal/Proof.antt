@@ -4,7 +4,7 @@ use native.Mathlib.Omega.{arith}
 use Prim.Native.Nat.{ℕ, _+_, _/_, _%_, _<_}
 use mathlib.Core.Path.{sym}
 use mathlib.Core.List.{[], _∷_}
-use Rattle.rules.specs.Text.{decimal}
+use Rattle.semantics.specs.Text.{decimal}
 use Rattle.text.proofs.Placing.{puts-more, puts-same}
 use Rattle.text.proofs.Decimal.{decimal-small, decimal-more}
 use borrow.Fn.Kinds.{In}

@@ -1,7 +1,7 @@
 -- `text::put_call` meets its contract: the word, and then the number.
 use borrow.Author.Needs.{needs}
-use Rattle.rules.specs.Ascii.{ascii}
-use Rattle.rules.specs.Text.{decimal, spaced}
+use Rattle.semantics.specs.Ascii.{ascii}
+use Rattle.semantics.specs.Text.{decimal, spaced}
 use Rattle.text.proofs.Placing.{puts-more}
 use Rattle.text.proofs.put_call.Statement.{statement}
 use Rattle.text.proofs.put_call.Tie as tie

@@ -2,8 +2,8 @@
 use borrow.Author.Needs.{needs}
 use mathlib.Core.List.{_++_}
 use lib.ListN.{take}
-use Rattle.rules.specs.Ascii.{ascii}
-use Rattle.rules.specs.Text.{decimal, spaced}
+use Rattle.semantics.specs.Ascii.{ascii}
+use Rattle.semantics.specs.Text.{decimal, spaced}
 use Rattle.text.proofs.Placing.{puts-more, puts-same}
 use Rattle.text.proofs.Lines.{numbers, done-line}
 use Rattle.text.proofs.put_done.Statement.{statement}

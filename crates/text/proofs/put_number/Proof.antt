@@ -1,7 +1,7 @@
 -- `text::put_number` meets its contract: a space, and then the number.
 use borrow.Author.Needs.{needs}
-use Rattle.rules.specs.Ascii.{ascii}
-use Rattle.rules.specs.Text.{decimal}
+use Rattle.semantics.specs.Ascii.{ascii}
+use Rattle.semantics.specs.Text.{decimal}
 use Rattle.text.proofs.Placing.{puts-more}
 use Rattle.text.proofs.put_number.Statement.{statement}
 use Rattle.text.proofs.put_number.Tie as tie

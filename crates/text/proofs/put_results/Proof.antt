@@ -6,7 +6,7 @@ use mathlib.Core.Path.{_≡_, refl, sym, ap, _∙_}
 use mathlib.Core.List.{List}
 use lib.ListN.{length, take, getD}
 use lib.Seq.{take-all}
-use Rattle.rules.specs.Text.{decimal, spaced}
+use Rattle.semantics.specs.Text.{decimal, spaced}
 use Rattle.text.proofs.Placing.{Puts, puts-none, puts-more, puts-same}
 use Rattle.text.proofs.Lines.{numbers, numbers-more}
 use Rattle.text.proofs.put_results.Statement.{statement}

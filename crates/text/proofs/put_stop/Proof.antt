@@ -1,8 +1,8 @@
 -- `text::put_stop` meets its contract: the parts of the line, one after the other.
 use borrow.Author.Needs.{needs}
 use mathlib.Core.List.{_++_}
-use Rattle.rules.specs.Ascii.{ascii}
-use Rattle.rules.specs.Text.{decimal, spaced}
+use Rattle.semantics.specs.Ascii.{ascii}
+use Rattle.semantics.specs.Text.{decimal, spaced}
 use Rattle.text.proofs.Placing.{puts-more, puts-same}
 use Rattle.text.proofs.Lines.{stop-line}
 use Rattle.text.proofs.put_stop.Statement.{statement}

@@ -1,7 +1,7 @@
 use Prim.Native.Nat.{_≤_}
 use native.Mathlib.Omega.{arith}
 use Rattle.judging.specs.Judging.{answerOf}
-use Rattle.runs.proofs.Values.{run-small}
+use Rattle.running.proofs.Values.{run-small}
 use borrow.Author.Needs.{needs}
 use Rattle.yithrel.proofs.yithrel_run.Statement.{statement}
 use Rattle.yithrel.proofs.yithrel_run.Tie as tie

@@ -1,5 +1,5 @@
 use Prim.Native.Nat.{ℕ, _%_}
-use Rattle.program.specs.Program.{rowKind, localKind}
+use Rattle.declarations.specs.Program.{rowKind, localKind}
 use borrow.Author.Needs.{needs}
 use mathlib.Core.Path.{ap, _∙_}
 use Rattle.frame.proofs.stack.kind_of_local.Statement.{statement}

@@ -1,0 +1,17 @@
+pub mod Regular
+pub mod Follow
+pub mod Depth
+pub mod Rows
+pub mod Guest
+pub mod Shown
+pub mod Lowest
+pub mod Causes
+pub mod Refusals
+pub mod Walks
+pub mod Stretches
+pub mod Counts
+pub mod Procedures
+pub mod Types
+pub mod Instructions
+pub mod Judged
+pub mod ProcedureRows

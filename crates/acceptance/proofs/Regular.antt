@@ -1,0 +1,80 @@
+-- The steps of a procedure: MvLoc, CpLoc and StLoc are regular, and how many operands a step takes and pushes is as many as its effect does.
+use Prim.Native.Nat.{ℕ, zero, suc}
+use mathlib.Core.Path.{_≡_, refl, ap, _∙_}
+use mathlib.Core.Bool.{Bool, true, false, false≢true}
+use mathlib.Core.List.{List, [], _∷_}
+use lib.ListN.{length, getD}
+use Rattle.laws.specs.Lists.{tabulate}
+use Rattle.laws.proofs.Lists.{length-tabulate}
+use Rattle.table.specs.declared.Row.{Row}
+use Rattle.table.specs.declared.index.Index.{Index}
+use Rattle.table.specs.declared.index.TypeEntry.{TypeEntry}
+use Rattle.table.specs.declared.index.ProcedureEntry.{ProcedureEntry}
+use Rattle.table.specs.Format.{opMvLoc, opCpLoc, opStLoc}
+use Rattle.table.specs.Rows.{rowAt}
+use Rattle.declarations.specs.Program.{number, codeOf}
+use Rattle.effects.specs.Effects.{effects, effectOf, noEffect}
+use Rattle.operands.specs.Flow.{effectIn}
+use Rattle.flow.specs.Paths.{Regular}
+use Rattle.steps.specs.Steps.{Marking, stepOf, stepAt}
+use Rattle.leaks.specs.Leaks.{borrowsGuarded, guardedMarks}
+
+-- a marking under which steps are regular: MvLoc and CpLoc make no mark of themselves, and what carries marks pushes one operand, which is not marked of itself
+pub record Plain (m : Marking) : Type 0 where
+  pub moved : (named : TypeEntry) (row : Row) → row .a ≡ opMvLoc → m .makes named row 0 ≡ false
+  pub copied : (named : TypeEntry) (row : Row) → row .a ≡ opCpLoc → m .makes named row 0 ≡ false
+  pub carried : (t : List ℕ) (own : ProcedureEntry) (named : TypeEntry) (callee : ProcedureEntry) (row : Row) → m .carries row ≡ true → stepOf t m own named callee row .fresh ≡ false ∷ []
+
+-- so are those of guarded references
+pub guarded-plain : (t : List ℕ) → Plain (guardedMarks t)
+unfolding borrowsGuarded
+guarded-plain t = record { moved = λ named row e. rw e; copied = λ named row e. rw e; carried = λ t own named callee row e. absurd (false≢true e) }
+
+-- the step of a row: what it takes, and what is marked of what it pushes
+module _ (t : List ℕ) (m : Marking) (plain : Plain m) (own : ProcedureEntry) (named : TypeEntry) (callee : ProcedureEntry) (row : Row) where
+  -- MvLoc
+  moving-step : row .a ≡ opMvLoc → (stepOf t m own named callee row .takes ≡ 0) × (stepOf t m own named callee row .fresh ≡ false ∷ [])
+  unfolding stepOf effectOf effects tabulate
+  moving-step e = let one : length (effectOf t own named callee row number .gives) ≡ 1 = rw e in (rw e, rw one (ap (λ (b : Bool). b ∷ []) (plain .moved named row e)))
+
+  -- CpLoc
+  copying-step : row .a ≡ opCpLoc → (stepOf t m own named callee row .takes ≡ 0) × (stepOf t m own named callee row .fresh ≡ false ∷ [])
+  unfolding stepOf effectOf effects tabulate
+  copying-step e = let one : length (effectOf t own named callee row number .gives) ≡ 1 = rw e in (rw e, rw one (ap (λ (b : Bool). b ∷ []) (plain .copied named row e)))
+
+  -- StLoc
+  storing-step : row .a ≡ opStLoc → (stepOf t m own named callee row .takes ≡ 1) × (stepOf t m own named callee row .fresh ≡ [])
+  unfolding stepOf effectOf effects tabulate
+  storing-step e = let none : length (effectOf t own named callee row number .gives) ≡ 0 = rw e in (rw e, rw none)
+
+-- MvLoc and CpLoc take nothing and push one operand, StLoc takes one and pushes nothing
+pub regular : (t : List ℕ) (ix : Index) (m : Marking) (p : ProcedureEntry) → Plain m → Regular (stepAt t ix m p)
+unfolding stepAt stepOf
+regular t ix m p plain = record {
+  moving = λ i e. moving-step t m plain p _ _ (rowAt (codeOf t p) i) e;
+  copying = λ i e. copying-step t m plain p _ _ (rowAt (codeOf t p) i) e;
+  storing = λ i e. storing-step t m plain p _ _ (rowAt (codeOf t p) i) e;
+  carrying = λ i e. plain .carried t p _ _ (rowAt (codeOf t p) i) e;
+}
+
+-- what Pop finds does not change how many operands an instruction takes, and pushes
+module _ (t : List ℕ) (own : ProcedureEntry) (named : TypeEntry) (callee : ProcedureEntry) (b x y : ℕ) where
+  same-takes : (a : ℕ) → length (getD (effects t own named callee b x) a noEffect .takes) ≡ length (getD (effects t own named callee b y) a noEffect .takes)
+  unfolding effects
+  same-takes zero = refl
+  same-takes (suc a) = refl
+
+  same-gives : (a : ℕ) → length (getD (effects t own named callee b x) a noEffect .gives) ≡ length (getD (effects t own named callee b y) a noEffect .gives)
+  unfolding effects
+  same-gives zero = refl
+  same-gives (suc a) = refl
+
+-- a step takes as many operands as its effect
+pub step-takes : (t : List ℕ) (ix : Index) (m : Marking) (p : ProcedureEntry) (top i : ℕ) → stepAt t ix m p i .takes ≡ length (effectIn t ix p top i .takes)
+unfolding stepAt stepOf effectIn effectOf
+step-takes t ix m p top i = same-takes t p _ _ (rowAt (codeOf t p) i .b) number top (rowAt (codeOf t p) i .a)
+
+-- and pushes as many
+pub step-gives : (t : List ℕ) (ix : Index) (m : Marking) (p : ProcedureEntry) (top i : ℕ) → length (stepAt t ix m p i .fresh) ≡ length (effectIn t ix p top i .gives)
+unfolding stepAt stepOf effectIn effectOf
+step-gives t ix m p top i = length-tabulate _ _ ∙ same-gives t p _ _ (rowAt (codeOf t p) i .b) number top (rowAt (codeOf t p) i .a)

@@ -1,0 +1,88 @@
+-- In a table that every pass accepts, what holds wherever a walk of a procedure arrives: locals, marks, and no marks in a guest.
+use Prim.Native.Nat.{ℕ, _<_}
+use mathlib.Core.Path.{_≡_, refl}
+use mathlib.Core.Bool.{Bool, true, false}
+use mathlib.Core.List.{List}
+use mathlib.Core.Logic.{_⊎_, inl, inr}
+use lib.ListN.{getD}
+use Rattle.table.specs.declared.Verdict.the-variants.{Accepted}
+use Rattle.table.specs.Format.{opCall, opRet}
+use Rattle.table.specs.Rows.{rowCount}
+use Rattle.table.specs.Index.{indexOf}
+use Rattle.declarations.specs.Program.{codeOf, localCount, parameterCount}
+use Rattle.flow.specs.Steps.{nexts}
+use Rattle.flow.specs.Walks.{Slot, empty, full, markOf}
+use Rattle.flow.proofs.Marks.{no-local-mark, no-operand-mark}
+use Rattle.leaks.specs.Leaks.{inTrusted}
+use Rattle.judging.specs.Judging.{AcceptedTable, judgeOf}
+use Rattle.judging.proofs.Accepts.{accepted, up-to-operands}
+use Rattle.acceptance.specs.Checked.{stepIn, startsIn, WalkOf, Checked}
+use Rattle.acceptance.specs.Refusals.{opcode, LocalCause, used-empty, stored-over, left-behind, LeakCause, given-away, returned}
+use Rattle.acceptance.proofs.Rows.{own}
+use Rattle.acceptance.proofs.Guest.{no-fresh}
+use Rattle.acceptance.proofs.Shown.{call-takes, ret-takes, flow-at, arrived}
+use Rattle.acceptance.proofs.Causes.{needs-three}
+use Rattle.acceptance.proofs.Refusals.{locals-accepted, leaks-accepted}
+
+-- what is not empty is full
+slot-full : (s : Slot) → (s ≡ empty → ⊥) → (m : Bool) × (s ≡ full m)
+slot-full empty h = absurd (h refl)
+slot-full (full m) h = (m, refl)
+
+-- what is not full is empty
+slot-empty : (s : Slot) → ((m : Bool) → s ≡ full m → ⊥) → s ≡ empty
+slot-empty empty h = refl
+slot-empty (full m) h = absurd (h m refl)
+
+-- what is not true is false
+not-true-false : (b : Bool) → (b ≡ true → ⊥) → b ≡ false
+not-true-false true h = absurd (h refl)
+not-true-false false h = refl
+
+-- Where a walk of procedure q of an accepted table arrives.
+module _ (t : List ℕ) (a : AcceptedTable t) (q : ℕ) (there : q < indexOf t .procedures) (few : q < 128) {k i : ℕ} {ls : List Slot} {ms : List Bool} (w : WalkOf t q k i ls ms) where
+  -- at an instruction that is there
+  inside : i < rowCount (codeOf t (own t q))
+  inside = arrived t (up-to-operands a) q there few w .inside
+
+  -- it earns no number
+  no-local : {number : ℕ} → LocalCause t q i number → ⊥
+  no-local c = locals-accepted t (up-to-operands a) .0 (a .byLocals) _ _ (q, i, there, inside, refl, c)
+
+  no-leak : {number : ℕ} → LeakCause t q i number → ⊥
+  no-leak c = leaks-accepted t (up-to-operands a) .0 (a .byLeaks) _ _ (q, i, there, inside, refl, c)
+
+  -- in a guest nothing is marked
+  guest-walk : inTrusted t (indexOf t) (own t q) ≡ false → ((l : ℕ) → markOf (getD ls l empty) ≡ false) × ((j : ℕ) → getD ms j false ≡ false)
+  guest-walk g =
+      let fresh = no-fresh t q there few (rowCount t) (a .byRows) (a .byNames) (flow-at t (up-to-operands a) q there few) g in (
+        no-local-mark (nexts (codeOf t (own t q))) (stepIn t q) (startsIn t q)
+            (parameterCount t (own t q)) (localCount (own t q)) fresh (λ l. refl) w,
+        no-operand-mark (nexts (codeOf t (own t q))) (stepIn t q) (startsIn t q)
+            (parameterCount t (own t q)) (localCount (own t q)) fresh (λ l. refl) w,
+      )
+
+  -- what a Call takes, and what Ret returns, is not marked
+  none-taken : (opcode t q i ≡ opCall) ⊎ (opcode t q i ≡ opRet) → (j : ℕ) → j < stepIn t q i .takes → getD ms j false ≡ false
+  none-taken c j h = go (inTrusted t (indexOf t) (own t q)) refl c
+    where
+      go : (b : Bool) → inTrusted t (indexOf t) (own t q) ≡ b → (opcode t q i ≡ opCall) ⊎ (opcode t q i ≡ opRet) → getD ms j false ≡ false
+      go true tr (inl c) = not-true-false _ (λ z. no-leak (given-away tr c j (rw (call-takes t q i c) at h) (k, ls, ms, w, z)))
+      go true tr (inr c) = not-true-false _ (λ z. no-leak (returned tr c j (rw (ret-takes t q i c) at h) (k, ls, ms, w, z)))
+      go false g c = guest-walk g .1 j
+
+-- what an accepted table gives at the end of every walk
+pub checked : (t : List ℕ) → AcceptedTable t → (q : ℕ) → q < indexOf t .procedures → q < 128 → {k i : ℕ} {ls : List Slot} {ms : List Bool} → WalkOf t q k i ls ms → Checked t q i ls ms
+checked t a q there few {k} {i} {ls} {ms} w = record {
+  full-there = λ e. slot-full _ (λ z. no-local t a q there few w (used-empty (needs-three _ e) (k, ls, ms, w, z)));
+  none-over = λ e r. slot-empty _ (λ m z. no-local t a q there few w (stored-over e r (k, ls, ms, m, w, z)));
+  none-left = λ e l h r. slot-empty _ (λ m z. no-local t a q there few w (left-behind e l h r (k, ls, ms, m, w, z)));
+  none-given = λ e. none-taken t a q there few w (inl e);
+  none-returned = λ e. none-taken t a q there few w (inr e);
+  guest-clean = guest-walk t a q there few w;
+}
+
+-- the same, from the verdict
+pub judged : (t : List ℕ) (n : ℕ) → judgeOf t ≡ Accepted n → (q : ℕ) → q < indexOf t .procedures → q < 128 → {k i : ℕ} {ls : List Slot} {ms : List Bool} → WalkOf t q k i ls ms
+    → Checked t q i ls ms
+judged t n e = checked t (accepted t n e)

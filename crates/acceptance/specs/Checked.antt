@@ -1,0 +1,38 @@
+-- What holds wherever a walk arrives, in a table that every pass accepts, in the form in which a proof about running uses it.
+use Prim.Native.Nat.{ℕ, _<_}
+use mathlib.Core.Path.{_≡_}
+use mathlib.Core.Bool.{Bool, true, false}
+use mathlib.Core.List.{List}
+use lib.ListN.{getD}
+use Rattle.table.specs.Format.{opStLoc, opCall, opRet}
+use Rattle.table.specs.Index.{indexOf}
+use Rattle.declarations.specs.Program.{procedureIn, codeOf, localCount, localKind, isRecord, parameterCount, instructionIn}
+use Rattle.flow.specs.Steps.{Step, nexts}
+use Rattle.flow.specs.Walks.{Slot, empty, full, Walk, entry, markOf}
+use Rattle.locals.specs.Locals.{needsFull}
+use Rattle.steps.specs.Steps.{stepAt}
+use Rattle.leaks.specs.Leaks.{guardedMarks, inTrusted}
+
+-- procedure q of a table: its instructions, its parameters that start marked, and its walks
+module _ (t : List ℕ) (q : ℕ) where
+  abbrev pub stepIn : ℕ → Step
+  stepIn = stepAt t (indexOf t) (guardedMarks t) (procedureIn (indexOf t) q)
+
+  abbrev pub startsIn : ℕ → Bool
+  startsIn = guardedMarks t .starts q
+
+  abbrev pub WalkOf : ℕ → ℕ → List Slot → List Bool → Type 0
+  WalkOf = Walk (nexts (codeOf t (procedureIn (indexOf t) q))) stepIn (entry startsIn (parameterCount t (procedureIn (indexOf t) q)) (localCount (procedureIn (indexOf t) q)))
+
+-- what instruction i finds where a walk arrives with these locals and marks
+pub record Checked (t : List ℕ) (q i : ℕ) (ls : List Slot) (ms : List Bool) : Type 0 where
+  -- MvLoc, CpLoc and BorrowLoc find their local full
+  pub full-there : needsFull (instructionIn t (indexOf t) q i .a) ≡ true → (m : Bool) × (getD ls (instructionIn t (indexOf t) q i .b) empty ≡ full m)
+  -- StLoc finds no record in its local, Ret in none
+  pub none-over : instructionIn t (indexOf t) q i .a ≡ opStLoc → isRecord (localKind t (procedureIn (indexOf t) q) (instructionIn t (indexOf t) q i .b)) ≡ true → getD ls (instructionIn t (indexOf t) q i .b) empty ≡ empty
+  pub none-left : instructionIn t (indexOf t) q i .a ≡ opRet → (l : ℕ) → l < localCount (procedureIn (indexOf t) q) → isRecord (localKind t (procedureIn (indexOf t) q) l) ≡ true → getD ls l empty ≡ empty
+  -- nothing that a Call takes, or that Ret returns, is marked
+  pub none-given : instructionIn t (indexOf t) q i .a ≡ opCall → (j : ℕ) → j < stepIn t q i .takes → getD ms j false ≡ false
+  pub none-returned : instructionIn t (indexOf t) q i .a ≡ opRet → (j : ℕ) → j < stepIn t q i .takes → getD ms j false ≡ false
+  -- in a guest nothing is marked at all
+  pub guest-clean : inTrusted t (indexOf t) (procedureIn (indexOf t) q) ≡ false → ((l : ℕ) → markOf (getD ls l empty) ≡ false) × ((j : ℕ) → getD ms j false ≡ false)

@@ -1,0 +1,4 @@
+pub mod Checked
+pub mod Refusals
+pub mod Judged
+pub mod ProcedureRows

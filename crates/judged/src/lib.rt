@@ -1,1 +1,0 @@
-// What an accepted table gives a proof about running. No code.

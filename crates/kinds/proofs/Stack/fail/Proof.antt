@@ -1,7 +1,0 @@
-use Rattle.kinds.proofs.Laws.{fail-is}
-use Rattle.kinds.proofs.Tests.{tests}
-use Rattle.kinds.proofs.Stack.fail.Statement.{statement}
-use Rattle.kinds.proofs.Stack.fail.Tie as tie
-
-pub fail-spec : {M : Type 1} → statement M
-fail-spec = tie.close (tie.spec (λ c. search (tests, fail-is)) (λ c ks. rw fail-is (search tests)))

@@ -1,9 +1,0 @@
-use borrow.Author.Needs.{needs}
-use Rattle.kinds.specs.Kinds.{takenAll, pushedAll}
-use Rattle.kinds.specs.Effects.{applied}
-use Rattle.kinds.proofs.Stack.load_const.Statement.{statement}
-use Rattle.kinds.proofs.Stack.load_const.Tie as tie
-
-pub load-const-spec : {M : Type 1} → statement M
-unfolding applied takenAll pushedAll
-load-const-spec = tie.close (tie.spec (λ c κs. search needs) (λ c. search needs))

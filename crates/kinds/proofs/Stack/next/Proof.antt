@@ -1,7 +1,0 @@
-use Rattle.kinds.specs.Kinds.{topFirst}
-use Rattle.kinds.proofs.Stack.next.Statement.{statement}
-use Rattle.kinds.proofs.Stack.next.Tie as tie
-
-pub next-spec : {M : Type 1} → statement M
-unfolding topFirst
-next-spec = tie.close (tie.spec (λ c ks. rw (c .if1 .taken)) (λ c ks. rw (c .if1 .left)))

@@ -1,9 +1,0 @@
--- What the contracts of reading cite.
-use Prim.Native.Nat.{ℕ, _≤_}
-use Rattle.report.specs.declared.Reading.{Reading}
-use Rattle.report.specs.declared.Reading.the-variants.{Bytes, Failed}
-
--- what was read fits a buffer of n bytes
-abbrev pub Fits : Reading → ℕ → Type 0
-Fits (Bytes k) n = k ≤ n
-Fits Failed n = Unit {0}
