@@ -8,13 +8,13 @@ use native.Mathlib.Nat.{add-zero}
 use native.Mathlib.Numerals.{add-one}
 use native.Mathlib.Decide.{decLt}
 use native.Mathlib.Omega.{arith}
-use borrow.Author.Tests.{eqb-true, eq-eqb, leb-false, ltb-false, not-true}
+use borrow.Author.Tests.{eqb-true, eq-eqb, leb-false, not-true}
 use lib.Dec.{eqb, leb, ltb}
 use lib.ListN.{getD, List·getD-eq-default}
 use Rattle.laws.specs.Lists.{member, every, count, nth}
 use Rattle.laws.proofs.Lists.{every-at, count-zero, count-yes, count-no}
 use Rattle.table.specs.declared.Row.{Row}
-use Rattle.table.specs.Format.{moduleKind, typeKind, fieldKind, procedureKind, localKind, resultKind, instructionKind, opOp}
+use Rattle.table.specs.Format.{moduleKind, typeKind, fieldKind, procedureKind, localKind, resultKind, instructionKind, opOp, pastOpcodes, pastOps}
 use Rattle.table.specs.Rows.{rowCount, rowAt, kindAt, isKind}
 use Rattle.table.specs.Index.{indexOf, indexedRows, resultsStart, codeStart, codeEnd}
 use Rattle.table.proofs.Laws.{type-within, type-fields, procedure-parts, procedure-locals, procedure-results}
@@ -164,23 +164,23 @@ ends-false a b c d e =
 
 -- what a row whose values are allowed does not have
 value-tests : (s : Above) (row : Row) → badValue s row ≡ false
-    → ((usesA row && leb (useOf (row .kind) .values) (row .a)) ≡ false) × ((eqb (row .kind) instructionKind && eqb (row .a) opOp && ltb 3 (row .b)) ≡ false)
+    → ((usesA row && leb (useOf (row .kind) .values) (row .a)) ≡ false) × ((eqb (row .kind) instructionKind && eqb (row .a) opOp && leb pastOps (row .b)) ≡ false)
 unfolding badValue
 value-tests s row e = ends-false
     (usesA row && leb (useOf (row .kind) .values) (row .a))
     (usesC row && ltb 1 (row .c))
     (eqb (row .kind) localKind && eqb (row .c) 1 && s .other)
-    (eqb (row .kind) instructionKind && eqb (row .a) opOp && ltb 3 (row .b))
+    (eqb (row .kind) instructionKind && eqb (row .a) opOp && leb pastOps (row .b))
     e
 
 -- the opcode of an instruction
-code-values : (s : Above) (row : Row) → badValue s row ≡ false → row .kind ≡ instructionKind → row .a < 20
+code-values : (s : Above) (row : Row) → badValue s row ≡ false → row .kind ≡ instructionKind → row .a < pastOpcodes
 unfolding usesA uses
-code-values s row e k = leb-false 20 (row .a) (rw k at (value-tests s row e .0))
+code-values s row e k = leb-false pastOpcodes (row .a) (rw k at (value-tests s row e .0))
 
 -- Op's operand
-op-values : (s : Above) (row : Row) → badValue s row ≡ false → row .kind ≡ instructionKind → row .a ≡ opOp → row .b ≤ 3
-op-values s row e k o = ltb-false 3 (row .b) (rw (k, o) at (value-tests s row e .1))
+op-values : (s : Above) (row : Row) → badValue s row ≡ false → row .kind ≡ instructionKind → row .a ≡ opOp → row .b < pastOps
+op-values s row e k o = leb-false pastOps (row .b) (rw (k, o) at (value-tests s row e .1))
 
 -- the sort of a field, and whether a module is trusted
 field-values : (s : Above) (row : Row) → badValue s row ≡ false → row .kind ≡ fieldKind → row .a < 2
@@ -194,12 +194,12 @@ module-values s row e k = leb-false 2 (row .a) (rw k at (value-tests s row e .0)
 -- Row i of a table whose rows have no fault.
 module _ (t : List ℕ) (fine : (i : ℕ) → i < rowCount t → faultAt t i ≡ 0) (i : ℕ) (h : i < rowCount t) where
   -- the opcode, if it is an instruction
-  pub row-opcode : kindAt t i ≡ instructionKind → rowAt t i .a < 20
+  pub row-opcode : kindAt t i ≡ instructionKind → rowAt t i .a < pastOpcodes
   unfolding kindAt
   row-opcode k = code-values (aboveAt t i) (rowAt t i) (tests t fine i h .1) k
 
   -- the operand, if it is Op
-  pub row-op : kindAt t i ≡ instructionKind → rowAt t i .a ≡ opOp → rowAt t i .b ≤ 3
+  pub row-op : kindAt t i ≡ instructionKind → rowAt t i .a ≡ opOp → rowAt t i .b < pastOps
   unfolding kindAt
   row-op k o = op-values (aboveAt t i) (rowAt t i) (tests t fine i h .1) k o
 

@@ -12,7 +12,7 @@ use lib.ListN.{getD}
 use Rattle.laws.specs.Numbers.{le}
 use Rattle.laws.proofs.Numbers.{le-2, le-4, le-8}
 use Rattle.table.specs.declared.Row.{Row}
-use Rattle.table.specs.Format.{instructionKind, opMvLoc, opBorrowLoc, opBorrowFld, opPack, opExists, opCall, opRet, opBranch, opBranchCond, opOp}
+use Rattle.table.specs.Format.{instructionKind, opMvLoc, opBorrowLoc, opBorrowFld, opPack, opExists, opCall, opRet, opBranch, opBranchCond, opOp, pastOpcodes, pastOps}
 use Rattle.table.specs.Rows.{rowCount, rowAt, rowFrom, kindAt}
 use Rattle.table.specs.Index.{indexOf, procedureAt, codeStart, codeEnd}
 use Rattle.table.proofs.Laws.{row-inside, procedure-code}
@@ -162,7 +162,7 @@ module _ (t : List ℕ) (a : AcceptedTable t) (q : ℕ) (known : q < indexOf t .
     named = code-named t q known (few t a q known) (rowCount t) (a .byNames) i h
 
     -- its opcode
-    opcode-is : instructionIn t (indexOf t) q i .a ≤ opOp
+    opcode-is : instructionIn t (indexOf t) q i .a < pastOpcodes
     opcode-is = rw row-is (omega (arith, row-opcode t (rows-fine t (rowCount t) (a .byRows)) (start + i) (omega (arith, lies, stop-inside)) kind-is))
 
     -- its constant
@@ -170,7 +170,7 @@ module _ (t : List ℕ) (a : AcceptedTable t) (q : ℕ) (known : q < indexOf t .
     constant-is bytes = rw row-is (constant-low t bytes (start + i) (omega (arith, lies, stop-inside)))
 
     -- the operand of Op
-    operation-is : instructionIn t (indexOf t) q i .a ≡ opOp → instructionIn t (indexOf t) q i .b ≤ 3
+    operation-is : instructionIn t (indexOf t) q i .a ≡ opOp → instructionIn t (indexOf t) q i .b < pastOps
     operation-is e = rw row-is (row-op t (rows-fine t (rowCount t) (a .byRows)) (start + i) (omega (arith, lies, stop-inside)) kind-is (rw row-is at e))
 
     -- what is neither Ret nor Branch is not the last

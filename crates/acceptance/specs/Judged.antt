@@ -8,7 +8,7 @@ use mathlib.Core.Option.{some}
 use lib.ListN.{length, getD, getElem? as nth}
 use Rattle.table.specs.declared.index.Index.{Index}
 use Rattle.table.specs.declared.index.ProcedureEntry.{ProcedureEntry}
-use Rattle.table.specs.Format.{maxTypes, maxFields, maxProcedures, maxLocals, maxResults, maxInstructions, opMvLoc, opBorrowLoc, opBorrowFld, opPack, opExists, opCall, opRet, opBranch, opBranchCond, opOp}
+use Rattle.table.specs.Format.{maxTypes, maxFields, maxProcedures, maxLocals, maxResults, maxInstructions, opMvLoc, opBorrowLoc, opBorrowFld, opPack, opExists, opCall, opRet, opBranch, opBranchCond, opOp, pastOpcodes, pastOps}
 use Rattle.table.specs.Rows.{rowCount, rowAt}
 use Rattle.declarations.specs.Program.{recordOf, isReference, rowKind, kindsOf, typeIn, procedureIn, fieldCount, fieldKinds, fieldRow, localCount, localKind, parametersEnd, parameterKinds, resultKinds, codeOf, parameterCount, instructionIn}
 use Rattle.reach.specs.Reach.{Mem}
@@ -46,7 +46,7 @@ pub record Procedure (t : List ℕ) (ix : Index) (p : ℕ) : Type 0 where
 
 -- instruction i of procedure p
 pub record Instruction (t : List ℕ) (ix : Index) (p i : ℕ) : Type 0 where
-  pub opcode : instructionIn t ix p i .a ≤ opOp
+  pub opcode : instructionIn t ix p i .a < pastOpcodes
   pub constant : instructionIn t ix p i .d < 2 ^ 64
   -- what it takes and pushes
   pub flow : Flow t ix (procedureIn ix p) i
@@ -66,7 +66,7 @@ pub record Instruction (t : List ℕ) (ix : Index) (p i : ℕ) : Type 0 where
       → (instructionIn t ix p i .b / 8 < ix .types) × (instructionIn t ix p i .b % 8 < fieldCount (typeIn ix (instructionIn t ix p i .b / 8)))
   pub type-named : opPack ≤ instructionIn t ix p i .a → instructionIn t ix p i .a ≤ opExists → instructionIn t ix p i .b < ix .types
   pub called : instructionIn t ix p i .a ≡ opCall → instructionIn t ix p i .b < ix .procedures
-  pub calculates : instructionIn t ix p i .a ≡ opOp → instructionIn t ix p i .b ≤ 3
+  pub calculates : instructionIn t ix p i .a ≡ opOp → instructionIn t ix p i .b < pastOps
 
 -- type y
 pub record Declared (t : List ℕ) (ix : Index) (y : ℕ) : Type 0 where

@@ -7,7 +7,6 @@ use native.Mathlib.Omega.{arith}
 use borrow.Author.Tests.{ltb-true, ltb-false, leb-false, le-ltb, lt-leb}
 use lib.Dec.{eqb, ltb, leb}
 use lib.ListN.{List·getD-eq-default}
-use Rattle.arithmetic.specs.declared.Calculated.{Calculated}
 use Rattle.arithmetic.specs.declared.Calculated.the-variants.{Value, OutOfRange, Unknown}
 use Rattle.arithmetic.specs.Arithmetic.{pastNumbers, truth, calculations, calculation}
 

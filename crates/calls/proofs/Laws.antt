@@ -1,17 +1,17 @@
 -- Laws of a call's arguments, of the calls of a list, and of rows that declare numbers only.
 use Prim.Native.Nat.{ℕ, zero, suc, _+_, _-_, _<_, _≤_}
-use mathlib.Core.Path.{_≡_, refl, sym, ap, _∙_}
+use mathlib.Core.Path.{_≡_, refl, sym, ap}
 use mathlib.Core.Bool.{Bool, true, false, cond, not, _&&_, _||_}
 use mathlib.Core.List.{List, [], _∷_}
 use native.Mathlib.Nat.{add-zero}
 use native.Mathlib.Omega.{arith}
-use borrow.Author.Tests.{ne-eqb, eqb-true}
+use borrow.Author.Tests.{ne-eqb}
 use lib.Dec.{eqb, leb}
 use lib.ListN.{length, getD}
 use Rattle.table.specs.declared.Row.{Row}
 use Rattle.table.specs.declared.index.Index.{Index}
 use Rattle.table.specs.declared.index.ProcedureEntry.{ProcedureEntry}
-use Rattle.table.specs.Rows.{rowAt, kindAt, isKind}
+use Rattle.table.specs.Rows.{rowAt, isKind}
 use Rattle.declarations.specs.Program.{rowKind, kindsOf, procedureIn, parameterKinds, resultKinds}
 use Rattle.effects.proofs.Laws.{kinds-none, kinds-first}
 use Rattle.semantics.specs.Calls.{callRow, argumentRow, arguments, allNumbers, noSuchProcedure, notNumbers, wrongCount, badBudget, badCall, call, callsFrom}
@@ -65,10 +65,6 @@ module _ (l : List ℕ) (i n : ℕ) where
   pub calls-end : n ≤ i → callsFrom l i (n - i) ≡ []
   unfolding callsFrom
   calls-end h = let s : n - i ≡ 0 = omega arith in rw s
-
-argument-no-call : (l : List ℕ) (i : ℕ) → isKind l argumentRow i ≡ true → isKind l callRow i ≡ false
-unfolding isKind
-argument-no-call l i e = ne-eqb (kindAt l i) callRow (λ q. omega (arith, eqb-true (kindAt l i) argumentRow e))
 
 -- Rows that declare numbers only: a row that does, one that does not, and no more rows.
 module _ (t : List ℕ) (i to : ℕ) where

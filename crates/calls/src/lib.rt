@@ -4,7 +4,7 @@ ghost use mathlib.Core.Bool.{not, _&&_, _||_};
 ghost use Prim.Native.Nat.{_+_, _-_};
 ghost use lib.Dec.{eqb, leb};
 ghost use lib.ListN.{length};
-ghost use Rattle.table.specs.Rows.{rowCount, rowAt};
+ghost use Rattle.table.specs.Rows.{rowCount};
 ghost use Rattle.declarations.specs.Program.{kindsOf, procedureIn, parameterKinds, resultKinds};
 ghost use Rattle.semantics.specs.Calls.{arguments, isPublic, badKind, unusedByte, argumentFirst, allNumbers, badBudget, listFault, listOf};
 use table::Row;

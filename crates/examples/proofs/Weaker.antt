@@ -1,17 +1,16 @@
 -- A judge without the leaks pass would break demand 3, by computation: the guest's frame comes to hold a reference to the guarded kilos.
-use Prim.Native.Nat.{ℕ}
 use mathlib.Core.Path.{_≡_, refl}
-use mathlib.Core.Bool.{true, false, true≢false}
-use mathlib.Core.List.{List, [], _∷_}
-use mathlib.Core.Option.{Option, none, some}
+use mathlib.Core.Bool.{true≢false}
+use mathlib.Core.List.{[], _∷_}
+use mathlib.Core.Option.{none, some}
 use lib.ListN.{getElem? as nth}
 use Rattle.reach.specs.Reach.{here as first}
 use Rattle.table.specs.Index.{indexOf}
-use Rattle.semantics.specs.Machine.{Value, num, toField, here, entry, frame, state, next}
+use Rattle.semantics.specs.Machine.{num, toField, here, entry, frame, state, next}
 use Rattle.semantics.specs.History.{Event, moment}
 use Rattle.semantics.specs.Run.{historyOf}
 use Rattle.semantics.specs.Words.{operand}
-use Rattle.semantics.specs.Claim.{All, Safe, safe}
+use Rattle.semantics.specs.Claim.{Safe, safe}
 use Rattle.semantics.proofs.Handing.{all-nth}
 use Rattle.semantics.proofs.Demand3.{all-head}
 use Rattle.examples.specs.Tables.{table, rowsHandedOut, callsHandedOut}

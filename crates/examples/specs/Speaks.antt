@@ -11,7 +11,7 @@ use Rattle.table.specs.Rows.{rowCount}
 use Rattle.table.specs.Index.{indexOf}
 use Rattle.judging.specs.Judging.{judgeOf}
 use Rattle.reach.specs.Reach.{Mem}
-use Rattle.semantics.specs.Machine.{Value, Cell, Entry, Frame, frame, State, state, Outcome, next, finished, stopped, stuck}
+use Rattle.semantics.specs.Machine.{Value, Cell, Entry, Frame, frame, State, state, next, finished, stopped, stuck}
 use Rattle.semantics.specs.Calls.{listOf}
 use Rattle.semantics.specs.History.{Base, base, Event, moment, ended}
 use Rattle.semantics.specs.Run.{historyOf}

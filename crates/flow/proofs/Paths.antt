@@ -74,10 +74,6 @@ module _ (width : ℕ) (next : ℕ → List ℕ) (moves : ℕ → ℕ → List �
   path-place (atFirst m) = fromBelow _ m
   path-place (onwards {i = i} {x = x} p h m) = movesBelow i x _ (path-place p) m
 
-  pub path-instruction : {k i x : ℕ} → Path next moves from k i x → i < n
-  path-instruction (atFirst m) = some
-  path-instruction (onwards {i = i} p h m) = nextBelow i _ h
-
   -- a step of the graph is a move to a place of a next instruction
   step-inv : (u v : ℕ) → Mem v (succs width next moves u)
       → (j y : ℕ) × Mem j (next (u / width)) × Mem y (moves (u / width) (u % width)) × (v ≡ width * j + y) × (j < n) × (y < width)

@@ -1,9 +1,9 @@
 -- Paths in a place graph, and what the analyses assume of the steps.
-use Prim.Native.Nat.{ℕ, zero, suc, _*_, _<_, _≤_}
+use Prim.Native.Nat.{ℕ, suc, _≤_}
 use mathlib.Core.Path.{_≡_}
 use mathlib.Core.Bool.{Bool, true, false}
 use mathlib.Core.List.{List, [], _∷_}
-use lib.ListN.{length, getD}
+use lib.ListN.{length}
 use Rattle.reach.specs.Reach.{Mem}
 use Rattle.table.specs.Format.{opMvLoc, opCpLoc, opStLoc}
 use Rattle.flow.specs.Steps.{Step}

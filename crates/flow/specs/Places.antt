@@ -1,7 +1,7 @@
 -- Facts about one place: "local l is empty (full) on arriving at instruction i", "local l (operand j) is marked on arriving at instruction i". Each is
 -- a node of a finite graph whose nodes are instruction and place, and is shown by a walk exactly where the node is reached.
 use Prim.Native.Nat.{ℕ, zero, suc, _+_, _-_, _*_, _/_, _%_}
-use mathlib.Core.Bool.{Bool, true, false, cond, not, _&&_, _||_}
+use mathlib.Core.Bool.{Bool, false, cond, _&&_}
 use mathlib.Core.List.{List, [], _∷_, _++_}
 use lib.Dec.{eqb, ltb}
 use lib.ListN.{length, getD, replicate}

@@ -1,7 +1,7 @@
 -- Walks ("paths" in the field): document 01, "Judging". A walk starts at a procedure's first instruction and takes each branch either way; it goes on past
 -- faulty rows. Parameters start full, other locals empty. Marked is a reference made by BorrowFld of a guarded field, and its copies through locals.
-use Prim.Native.Nat.{ℕ, zero, suc, _+_}
-use mathlib.Core.Bool.{Bool, true, false, cond, _||_}
+use Prim.Native.Nat.{ℕ, zero, suc}
+use mathlib.Core.Bool.{Bool, false, cond, _||_}
 use mathlib.Core.List.{List, [], _∷_}
 use lib.Dec.{eqb, ltb}
 use lib.ListN.{getD, set, drop}

@@ -5,7 +5,7 @@ use mathlib.Core.Bool.{cond}
 use mathlib.Core.Logic.{inl, inr}
 use mathlib.Core.List.{List, _∷_}
 use native.Mathlib.Omega.{arith}
-use borrow.Author.Tests.{lt-ltb, ne-eqb}
+use borrow.Author.Tests.{lt-ltb}
 use lib.Dec.{ltb}
 use lib.ListN.{length, getD, drop}
 use Rattle.state.specs.declared.Operand.{Operand}
@@ -13,10 +13,10 @@ use Rattle.state.specs.declared.Operand.the-variants.{Empty}
 use Rattle.state.specs.declared.frames.State.{State}
 use Rattle.state.specs.Layout.{operandCell, localCell, roomCell}
 use Rattle.state.specs.Frames.{withHeight, pushedIn, goneTo}
-use Rattle.machine.specs.Machine.{mframe, mstate, mnext, mstopped, mbroken}
+use Rattle.machine.specs.Machine.{mframe, mstate, mnext}
 use Rattle.machine.specs.Views.{upFrom, downFrom, operandsIn, localsIn, belowIn, roomsIn, entriesIn, Same}
 use Rattle.machine.proofs.Views.{below-same, rooms-same, entries-same, length-pushed, pushed-same, push-operands, push-locals, drop-is}
-use Rattle.frame.specs.Turning.{after, broken, ends, settled}
+use Rattle.frame.specs.Turning.{after, ends, settled}
 use Rattle.frame.specs.Stack.{pushing}
 use Rattle.frame.specs.Meaning.{outcomeOf, Tidy, Stands, Kept}
 
@@ -31,13 +31,6 @@ kept cs ds s s′ e h p q a b = (e, tidy, a, b)
       unused = λ r l m. rw (h r m) (t .unused r (omega arith) m);
       free-low = omega (arith, t .free-low);
     }
-
--- The call ends.
-pub ends-is : (k n : ℕ) (cs : List Operand) (s : State) → (n ≡ 0 → ⊥) → (n ≡ 1 → ⊥) → (n ≡ 99 → ⊥) → outcomeOf k (ends cs s n) ≡ mstopped n
-ends-is k n cs s a b c = rw (ne-eqb n 0 a, ne-eqb n 1 b, ne-eqb n 99 c)
-
-pub broken-is : (k : ℕ) (cs : List Operand) (s : State) → outcomeOf k (ends cs s broken) ≡ mbroken
-broken-is k cs s = refl
 
 pub ends-kept : (cs : List Operand) (s : State) (n : ℕ) → Kept cs s (ends cs s n)
 ends-kept cs s n = kept cs cs s _ refl (λ r l. refl) refl refl (omega arith) (omega arith)

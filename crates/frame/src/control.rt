@@ -6,6 +6,7 @@ ghost use Rattle.state.specs.Cells.{cellsOf};
 ghost use Rattle.frame.specs.Turning.{after};
 ghost use Rattle.frame.specs.Control.{within, calledIn, callOf, returnedTo, retOf, branchOf};
 use state::frames::State;
+use state::stops;
 use table::index::ProcedureEntry;
 
 // n, at most 16.
@@ -20,7 +21,7 @@ fn call_with(s: State, cells: &mut [u64], procedure: u16, k: u8, count: u8) -> S
     ensures { λ r. ⌜ after r (cellsOf (now (cells .exit))) ≡ calledIn (cellsOf (now (cells .entry))) s procedure k count ⌝ }
 {
     if 15 <= s.depth {
-        return s.stopped(36);
+        return s.stopped(stops::TOO_MANY_FRAMES);
     }
     let caller = s.drop_top(k);
     caller.suspend(cells);
@@ -50,7 +51,7 @@ pub fn ret(s: State, cells: &mut [u64], own: ProcedureEntry) -> State
     ensures { λ r. ⌜ after r (cellsOf (now (cells .exit))) ≡ retOf (cellsOf (now (cells .entry))) s (own .code - own .results) ⌝ }
 {
     if s.depth == 0 {
-        return s.stopped(crate::DONE);
+        return s.stopped(stops::DONE);
     }
     return_to(s, cells, (steps::results_of(own) % 256) as u8)
 }
@@ -60,7 +61,7 @@ pub fn branch_cond(s: State, cells: &[u64], b: u16) -> State
     ensures { λ r. ⌜ r ≡ branchOf (cellsOf (now (cells .entry))) s b ⌝ }
 {
     if !s.has_number(cells, 0) {
-        return s.stopped(crate::BROKEN);
+        return s.stopped(stops::BROKEN);
     }
     if s.number(cells, 0) == 0 {
         return s.drop_top(1).next();

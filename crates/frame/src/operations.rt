@@ -7,6 +7,7 @@ ghost use Rattle.frame.specs.Turning.{after, settled};
 ghost use Rattle.frame.specs.Operations.{closed, operated, opOf};
 use arithmetic::Calculated;
 use state::frames::State;
+use state::stops;
 
 // The instruction took k operands and pushes one.
 pub fn settle(s: State, cells: &mut [u64], k: u8, tag: u64, w: u64) -> State
@@ -21,8 +22,8 @@ fn close(s: State, cells: &mut [u64], x: Calculated) -> State
 {
     match x {
         Calculated::Value(v) => settle(s, cells, 2, state::NUMBER, v),
-        Calculated::OutOfRange => s.stopped(32),
-        Calculated::Unknown => s.stopped(crate::BROKEN),
+        Calculated::OutOfRange => s.stopped(stops::OUT_OF_RANGE),
+        Calculated::Unknown => s.stopped(stops::BROKEN),
     }
 }
 

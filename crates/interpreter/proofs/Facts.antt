@@ -1,5 +1,5 @@
 -- What the judge's acceptance gives for the instruction that a state on the way is at.
-use Prim.Native.Nat.{ℕ, zero, suc, _+_, _-_, _/_, _%_, _≤_, _<_}
+use Prim.Native.Nat.{ℕ, suc, _+_, _-_, _/_, _%_, _≤_, _<_}
 use mathlib.Core.Path.{_≡_, refl, ap, sym, _∙_}
 use mathlib.Core.Bool.{cond}
 use mathlib.Core.List.{List, [], _∷_}
@@ -7,33 +7,33 @@ use mathlib.Core.Option.{Option}
 use native.Mathlib.Omega.{arith}
 use lib.Dec.{eqb}
 use lib.ListN.{length, getD, length-append}
+use Rattle.table.specs.Format.{pastOpcodes}
 use Rattle.table.specs.declared.Row.{Row}
 use Rattle.table.specs.declared.index.ProcedureEntry.{ProcedureEntry}
-use Rattle.table.specs.declared.index.TypeEntry.{TypeEntry}
 use Rattle.table.specs.Index.{indexOf}
 use Rattle.table.specs.Rows.{rowAt}
-use Rattle.declarations.specs.Program.{number, typeIn, procedureIn, fieldCount, fieldKinds, localCount, localKind, codeOf, kindsOf, parameterKinds, parametersEnd, resultKinds, parameterCount}
+use Rattle.declarations.specs.Program.{number, typeIn, procedureIn, fieldCount, localCount, localKind, codeOf, kindsOf, parameterKinds, parametersEnd, resultKinds, parameterCount}
 use Rattle.effects.specs.Effects.{effects, noEffect}
 use Rattle.steps.proofs.Laws.{length-kinds}
 use Rattle.acceptance.specs.Judged.{Judged}
 use Rattle.semantics.specs.Machine.{Value, Cell, Entry, Frame, frame}
 use Rattle.semantics.specs.Step.{instruction}
-use Rattle.semantics.specs.Claim.{All, also, Owned}
-use Rattle.semantics.proofs.Frames.{FrameOk, Suspended, bottom, over, Stack, runs}
+use Rattle.semantics.specs.Claim.{Owned}
+use Rattle.semantics.proofs.Frames.{FrameOk, over, Stack, runs}
 use Rattle.state.specs.declared.Operand.{Operand}
 use Rattle.state.specs.declared.Operand.the-variants.{Empty}
 use Rattle.state.specs.declared.frames.State.{State}
 use Rattle.state.specs.Coding.{numberOf, secondOf}
 use Rattle.state.specs.Layout.{operandCell, suspendedCell}
-use Rattle.machine.specs.Machine.{MFrame, mframe, mstate}
+use Rattle.machine.specs.Machine.{MFrame, mframe}
 use Rattle.machine.specs.Represents.{ShowsFrames, and-frame}
 use Rattle.machine.specs.Runs.{takesAt}
-use Rattle.machine.specs.Views.{downFrom, operandsIn, frameIn, belowIn, viewOf}
+use Rattle.machine.specs.Views.{operandsIn, belowIn, viewOf}
 use Rattle.machine.proofs.Shows.{all-length}
 use Rattle.machine.proofs.Views.{length-down}
 use Rattle.interpreter.specs.Run.{procedureOf, typeOf, rowOf}
 use Rattle.interpreter.proofs.Live.{Live, instr, takes-at, stands, room, kind-low}
-use Rattle.interpreter.proofs.Frames.{low-gap, below-fit}
+use Rattle.interpreter.proofs.Frames.{low-gap}
 
 -- the frame of the rules that the running one stands for
 pub record Shown (t T W : List ℕ) (s p i : ℕ) (ops : List Operand) (h : List Cell) (st : List Entry) : Type 0 where
@@ -84,7 +84,7 @@ module _ (t : List ℕ) (J : Judged t (indexOf t)) where
     abbrev pub takes : ℕ
     takes = takesAt t (indexOf t) (s .procedure) (s .at)
 
-    pub opcode : row .a < 20
+    pub opcode : row .a < pastOpcodes
     opcode = omega (arith, instr t J F .opcode)
 
     pub own-same : procedureOf (indexOf t) (s .procedure) ≡ own

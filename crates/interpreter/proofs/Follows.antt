@@ -1,14 +1,13 @@
 -- A call of the run loop is a call of the machine on lists.
 use Prim.Native.Nat.{ℕ, zero, suc, _+_, _-_, _≤_, _<_, _^_}
 use mathlib.Core.Path.{_≡_, refl, sym, subst, _∙_}
-use mathlib.Core.Bool.{Bool, true, false, cond, true≢false}
-use mathlib.Core.List.{List, [], _∷_}
+use mathlib.Core.Bool.{Bool, true, false, cond}
+use mathlib.Core.List.{List, []}
 use native.Mathlib.Omega.{arith}
 use borrow.Author.Tests.{ltb-true, eqb-true, eqb-false, eq-eqb, ne-eqb}
 use lib.Dec.{eqb}
 use lib.ListN.{length}
 use Rattle.table.specs.Index.{indexOf}
-use Rattle.table.specs.declared.index.ProcedureEntry.{ProcedureEntry}
 use Rattle.declarations.specs.Program.{procedureIn}
 use Rattle.semantics.specs.Limits.{budgetSpent}
 use Rattle.semantics.proofs.Changes.{clash}
@@ -18,16 +17,16 @@ use Rattle.state.specs.declared.frames.State.{State}
 use Rattle.state.specs.Layout.{allCells}
 use Rattle.state.specs.Frames.{dropped, stoppedWith}
 use Rattle.machine.specs.Machine.{MState, mstate, MOutcome, mnext, mfinished, mstopped, mbroken, topmost}
-use Rattle.machine.specs.Runs.{mstep, mrow, MEnd, mend, monward, mgo}
+use Rattle.machine.specs.Runs.{mstep, MEnd, mend, monward, mgo}
 use Rattle.machine.specs.Lists.{MBase, mbase}
 use Rattle.machine.specs.Views.{operandsIn, roomsIn, entriesIn, viewOf}
-use Rattle.frame.specs.Turning.{Turning, after, done, broken, ends}
-use Rattle.frame.specs.Meaning.{outcomeBy, outcomeOf, Tidy, Stands, Kept}
+use Rattle.frame.specs.Turning.{Turning, after, done, broken}
+use Rattle.frame.specs.Meaning.{outcomeOf, Tidy, Stands, Kept}
 use Rattle.step.proofs.Shapes.{Bounded, Shape, finishes, stays, goes}
 use Rattle.interpreter.specs.Run.{onward, stepAt, runFrom}
 use Rattle.interpreter.proofs.Live.{Live, Numbers, LiveOutcome, live-step}
 use Rattle.interpreter.proofs.Frames.{live-stands}
-use Rattle.interpreter.proofs.Facts.{row, opcode, row-same, taken, returns}
+use Rattle.interpreter.proofs.Facts.{row, taken, returns}
 use Rattle.interpreter.proofs.Steps.{step-shape, step-is, step-kept}
 
 -- what lasts from call to call

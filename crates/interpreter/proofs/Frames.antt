@@ -1,22 +1,19 @@
 -- What an accepted table gives of the frames, rooms and entries of a state on the way: they lie within the bounds of their cells.
-use Prim.Native.Nat.{ℕ, zero, suc, _+_, _-_, _%_, _/_, _<_, _≤_}
+use Prim.Native.Nat.{ℕ, zero, suc, _+_, _-_, _<_, _≤_}
 use mathlib.Core.Path.{_≡_, refl, ap, sym, _∙_}
-use mathlib.Core.Bool.{Bool, true, false}
 use mathlib.Core.List.{List, [], _∷_}
-use mathlib.Core.Option.{Option, none, some}
+use mathlib.Core.Option.{Option, some}
 use native.Mathlib.Decide.{decLt}
 use native.Mathlib.Omega.{arith}
 use lib.ListN.{length, getD, getElem? as nth}
 use Rattle.table.specs.Index.{indexOf}
-use Rattle.table.specs.Rows.{rowCount}
-use Rattle.declarations.specs.Program.{procedureIn, localCount, codeOf, resultKinds, fieldKinds, typeIn}
+use Rattle.declarations.specs.Program.{procedureIn}
 use Rattle.flow.specs.Walks.{Slot}
-use Rattle.operands.specs.Flow.{onto}
 use Rattle.leaks.specs.Leaks.{guardedMarks}
 use Rattle.acceptance.proofs.Regular.{guarded-plain}
 use Rattle.acceptance.proofs.Depth.{length-onto, good-same, deep}
-use Rattle.acceptance.specs.Judged.{Judged, localKinds}
-use Rattle.semantics.specs.Machine.{Value, Cell, gone, here, Entry, Frame, frame, State as RuleState, state}
+use Rattle.acceptance.specs.Judged.{Judged}
+use Rattle.semantics.specs.Machine.{Value, Cell, Frame}
 use Rattle.semantics.specs.Claim.{All, none-left, also}
 use Rattle.semantics.proofs.Changes.{clash}
 use Rattle.semantics.proofs.Typing.{Slots, snil, sempty, sfull, Fields, dnil, dnum, dobj, CellOk}
@@ -25,13 +22,13 @@ use Rattle.semantics.proofs.Entering.{has-length}
 use Rattle.state.specs.declared.Operand.{Operand}
 use Rattle.state.specs.declared.Operand.the-variants.{Empty, Number, Record, Refer}
 use Rattle.state.specs.declared.frames.State.{State}
-use Rattle.state.specs.Coding.{numberOf, firstOf, secondOf, thirdOf}
+use Rattle.state.specs.Coding.{secondOf, thirdOf}
 use Rattle.state.specs.Layout.{operandCell, localCell, suspendedCell, roomCell, allCells}
 use Rattle.machine.specs.Machine.{MFrame, mframe, MRoom, mroom, MEntry, mstate}
-use Rattle.machine.specs.Represents.{ShowsAll, no-more, and, ShowsLocals, no-local, and-local, ShowsFrames, no-frame, and-frame, ShowsRooms, Represents}
-use Rattle.machine.specs.Views.{upFrom, downFrom, operandsIn, localsIn, frameIn, suspendedAt, belowIn, tab, roomBy, roomIn, roomsIn, entriesIn, viewOf}
+use Rattle.machine.specs.Represents.{ShowsAll, ShowsLocals, no-local, and-local, ShowsFrames, no-frame, and-frame, ShowsRooms}
+use Rattle.machine.specs.Views.{upFrom, frameIn, suspendedAt, belowIn, tab, roomIn, roomsIn, viewOf}
 use Rattle.machine.proofs.Shows.{all-length}
-use Rattle.machine.proofs.Views.{length-up, length-down, length-below}
+use Rattle.machine.proofs.Views.{length-up, length-down}
 use Rattle.frame.specs.Meaning.{Tidy, Stands}
 use Rattle.interpreter.proofs.Live.{Live}
 

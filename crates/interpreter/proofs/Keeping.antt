@@ -3,8 +3,7 @@ use Prim.Native.Nat.{ℕ, zero, suc, _+_, _-_, _*_, _/_, _≤_, _<_}
 use mathlib.Core.Path.{_≡_, refl, ap, sym, _∙_}
 use mathlib.Core.Bool.{Bool, true, false, cond}
 use mathlib.Core.Logic.{_⊎_, inl, inr}
-use mathlib.Core.List.{List, [], _∷_, _++_, map}
-use mathlib.Core.Option.{Option, none}
+use mathlib.Core.List.{List, [], _∷_, map}
 use native.Mathlib.Decide.{decLt}
 use native.Mathlib.Omega.{arith}
 use native.Mathlib.Numerals.{add-one}
@@ -13,16 +12,13 @@ use lib.Dec.{leb}
 use lib.ListN.{length, getD, set, drop, length-set}
 use lib.Seq.{drop-cons, getD-set-same, getD-set-other}
 use Rattle.state.specs.declared.Operand.{Operand}
-use Rattle.state.specs.declared.Operand.the-variants.{Empty, Number, Record, Refer}
+use Rattle.state.specs.declared.Operand.the-variants.{Empty, Number}
 use Rattle.state.specs.declared.frames.State.{State}
-use Rattle.state.specs.Coding.{isRecord, secondOf}
 use Rattle.state.specs.Cells.{cellsOf}
 use Rattle.state.proofs.Cells.{cells-length, cells-at, cells-set}
 use Rattle.state.specs.Layout.{roomCell, allCells}
-use Rattle.machine.specs.Machine.{MRoom}
-use Rattle.machine.specs.Views.{Same, upFrom, roomBy, roomIn, roomsIn, entriesIn}
-use Rattle.machine.proofs.Views.{tab-same, room-same, rooms-same, entries-same, up-append, up-empty, length-emptied, emptied-other, emptied-there}
-use Rattle.interpreter.specs.Calls.{carried, kept, keptOf, freed, filled, begunIn, restoredIn}
+use Rattle.machine.specs.Views.{Same, upFrom}
+use Rattle.interpreter.specs.Calls.{carried, kept, keptOf, freed, filled}
 
 -- numbers carried from one list to another
 module _ {A : Type 0} (z : A) (ks cs : List A) (at : ℕ) where

@@ -1,7 +1,7 @@
 -- A step of the run loop is a step of the machine on lists.
-use Prim.Native.Nat.{ℕ, zero, suc, _+_, _-_, _<_, _≤_}
-use mathlib.Core.Path.{_≡_, refl, ap, sym, _∙_}
-use mathlib.Core.Bool.{Bool, true}
+use Prim.Native.Nat.{ℕ, _+_, _-_, _<_, _≤_}
+use mathlib.Core.Path.{_≡_, refl, _∙_}
+use mathlib.Core.Bool.{true}
 use mathlib.Core.List.{List, [], _∷_}
 use native.Mathlib.Omega.{arith}
 use lib.Dec.{eqb}
@@ -10,7 +10,7 @@ use Rattle.table.specs.Index.{indexOf}
 use Rattle.table.specs.declared.Row.{Row}
 use Rattle.table.specs.declared.index.TypeEntry.{TypeEntry}
 use Rattle.table.specs.declared.index.ProcedureEntry.{ProcedureEntry}
-use Rattle.declarations.specs.Program.{procedureIn, typeIn, localCount, localKind, parametersEnd}
+use Rattle.declarations.specs.Program.{procedureIn, localCount, localKind, parametersEnd}
 use Rattle.effects.specs.Effects.{effects}
 use Rattle.acceptance.specs.Judged.{Judged}
 use Rattle.state.specs.declared.Operand.{Operand}
@@ -20,9 +20,9 @@ use Rattle.state.specs.Coding.{secondOf}
 use Rattle.state.specs.Layout.{operandCell, roomCell}
 use Rattle.state.specs.Frames.{topAt}
 use Rattle.state.specs.Rooms.{isLive}
-use Rattle.machine.specs.Machine.{doings, backTo, mbroken}
-use Rattle.machine.specs.Runs.{takesAt, did, mstep}
-use Rattle.machine.specs.Views.{downFrom, upFrom, operandsIn, viewOf}
+use Rattle.machine.specs.Machine.{doings, backTo}
+use Rattle.machine.specs.Runs.{did, mstep}
+use Rattle.machine.specs.Views.{upFrom, operandsIn, viewOf}
 use Rattle.machine.proofs.Views.{length-up, length-down, top-is}
 use Rattle.machine.proofs.Memory.{headIn, room-of}
 use Rattle.frame.specs.Turning.{Turning, ends, broken}
@@ -36,8 +36,8 @@ use Rattle.records.proofs.PackingArms.{pack-is, pack-kept, unpack-is, unpack-ke
 use Rattle.records.proofs.PublishedArms.{move-to-is, move-to-kept, move-from-is, move-from-kept, global-is, global-kept, exists-is, exists-kept}
 use Rattle.frame.proofs.ControlArms.{call-is, call-kept, ret-is, ret-kept, branch-is, branch-kept, branch-cond-is, branch-cond-kept}
 use Rattle.frame.proofs.OperationsArms.{op-is, op-kept}
-use Rattle.interpreter.specs.Run.{procedureOf, typeOf, rowOf, turnAt, stepAt}
-use Rattle.interpreter.proofs.Live.{Live, LiveOutcome, live-step}
+use Rattle.interpreter.specs.Run.{procedureOf, typeOf, turnAt, stepAt}
+use Rattle.interpreter.proofs.Live.{Live, live-step}
 use Rattle.interpreter.proofs.Frames.{live-low}
 use Rattle.interpreter.proofs.Facts.{own, row, takes, opcode, own-same, row-same, row-instruction, taken, takes-is, pushed-room, type-low, field-low, named-same, packs, callee-same, calls, returns, return-room, local-low, local-kind}
 

@@ -10,13 +10,11 @@ ghost use Rattle.frame.specs.Turning.{after};
 ghost use Rattle.interpreter.specs.Run.{runFrom};
 ghost use Rattle.interpreter.specs.Calls.{carried, kept, keptOf, freed, filled, begun, restoredTo, callTurn};
 use state::frames::State;
+use state::stops;
 use table::Row;
 use table::format;
 use table::index::Index;
 use table::index::ProcedureEntry;
-
-// The budget is spent.
-const BUDGET_SPENT: u8 = 31;
 
 // Instruction i of a procedure.
 fn instruction_at(table: &[u8], own: ProcedureEntry, i: u16) -> Row
@@ -43,7 +41,7 @@ pub fn run(s: State, cells: &mut [u64], table: &[u8], index: Index, budget: u32)
             return now;
         }
     }
-    now.stopped(BUDGET_SPENT)
+    now.stopped(stops::BUDGET_SPENT)
 }
 
 // Copies k numbers from place `at` on.
@@ -131,7 +129,7 @@ fn begin(mut s: State, procedure: u16, count: u8) -> State
 fn restore(s: State, cells: &mut [u64], saved: &[u64], first: State) -> State
     ensures { λ r. ⌜ after r (cellsOf (now (cells .exit))) ≡ restoredTo (cellsOf (now (saved .entry))) first (after s (cellsOf (now (cells .entry)))) ⌝ }
 {
-    if s.stop == frame::DONE {
+    if s.stop == stops::DONE {
         return s;
     }
     keep_memory(cells, saved, first);

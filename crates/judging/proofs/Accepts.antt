@@ -1,10 +1,9 @@
 -- A table is accepted exactly if every pass accepts it.
-use Prim.Native.Nat.{ℕ, _+_, _*_, _%_, _<_, _≤_}
-use mathlib.Core.Path.{_≡_, refl, sym, ap, _∙_}
-use mathlib.Core.Bool.{Bool, true, false, cond, not, _||_}
+use Prim.Native.Nat.{ℕ, _%_}
+use mathlib.Core.Path.{_≡_, refl, ap, _∙_}
+use mathlib.Core.Bool.{Bool, true, false, not, _||_}
 use mathlib.Core.List.{List, [], _∷_}
 use native.Mathlib.Nat.{zero-add}
-use native.Mathlib.Omega.{arith}
 use lib.Dec.{eqb, ltb}
 use lib.ListN.{length}
 use Rattle.laws.proofs.First.{all-fine, clean-if}
@@ -13,9 +12,9 @@ use Rattle.table.specs.declared.Verdict.the-variants.{Accepted, Refused}
 use Rattle.table.specs.declared.index.ProcedureEntry.{ProcedureEntry}
 use Rattle.table.specs.declared.index.Index.{Index}
 use Rattle.table.specs.Rows.{rowCount}
-use Rattle.table.specs.Verdicts.{andThen, valueOf, passOver}
+use Rattle.table.specs.Verdicts.{valueOf, passOver}
 use Rattle.table.specs.Index.{indexOf}
-use Rattle.rows.specs.Rows.{lengthOf, rowsOf, faultAt}
+use Rattle.rows.specs.Rows.{lengthOf, rowsOf}
 use Rattle.declarations.specs.Program.{codePass}
 use Rattle.declarations.proofs.Passes.{refused-accepted, both-accept, pass-fine, pass-clean}
 use Rattle.names.specs.Names.{namesOf, namesWith}

@@ -14,7 +14,6 @@ use Rattle.laws.specs.Lists.{member, hits, nth, count}
 use Rattle.laws.proofs.First.{all-fine}
 use Rattle.laws.proofs.Lists.{getD-snoc-old, getD-snoc-new, length-entries}
 use Rattle.table.specs.declared.Row.{Row}
-use Rattle.table.specs.declared.Verdict.{Verdict}
 use Rattle.table.specs.declared.Verdict.the-variants.{Accepted, Refused}
 use Rattle.table.specs.declared.index.ProcedureEntry.{ProcedureEntry}
 use Rattle.table.specs.Format.{procedureKind}

@@ -1,9 +1,8 @@
 -- The value of a verdict, a row or the number of rows, is at most 2,048.
-use Prim.Native.Nat.{ℕ, zero, suc, _+_, _-_, _*_, _/_, _%_, _<_, _≤_}
-use mathlib.Core.Path.{_≡_, refl, sym, ap, _∙_}
+use Prim.Native.Nat.{ℕ, zero, suc, _+_, _-_, _%_, _<_, _≤_}
+use mathlib.Core.Path.{_≡_, refl}
 use mathlib.Core.Bool.{Bool, true, false, cond, not, _||_}
 use mathlib.Core.List.{List, [], _∷_}
-use native.Mathlib.Decide.{decLt}
 use native.Mathlib.Omega.{arith}
 use borrow.Author.Tests.{ltb-false}
 use lib.Dec.{eqb, ltb}
@@ -18,7 +17,7 @@ use Rattle.table.specs.Format.{procedureKind}
 use Rattle.table.specs.Rows.{rowCount, isKind}
 use Rattle.table.specs.Verdicts.{andThen, valueOf}
 use Rattle.table.specs.Index.{indexOf, indexedRows, procedureAt, noProcedure}
-use Rattle.rows.specs.Rows.{lengthOf, rowsOf, faultAt}
+use Rattle.rows.specs.Rows.{lengthOf, rowsOf}
 use Rattle.declarations.specs.Program.{codeOf, codeVerdict, overProcedures, codePass, procedureIn}
 use Rattle.declarations.proofs.Laws.{procedure-ends}
 use Rattle.names.specs.Names.{namesOf, namesWith}

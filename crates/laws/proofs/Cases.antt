@@ -37,3 +37,13 @@ pub each-listed : {A : Type 0} (P : ℕ → A → Type 0) (xs : List A) (z : A) 
 each-listed P [] z a i h = absurd (omega arith)
 each-listed P (x ∷ xs) z a zero h = a .0
 each-listed P (x ∷ xs) z a (suc i) h = each-listed (λ (j : ℕ). P (suc j)) xs z (a .1) i (omega arith)
+
+-- what holds of each number below n, one after the other, holds of every one
+abbrev pub Below : (ℕ → Type 0) → ℕ → Type 0
+Below P zero = Unit {0}
+Below P (suc n) = P 0 × Below (λ (i : ℕ). P (suc i)) n
+
+pub below-each : (P : ℕ → Type 0) (n : ℕ) → Below P n → (a : ℕ) → a < n → P a
+below-each P zero b a h = absurd (omega arith)
+below-each P (suc n) b zero h = b .0
+below-each P (suc n) b (suc a) h = below-each (λ (i : ℕ). P (suc i)) n (b .1) a (omega arith)

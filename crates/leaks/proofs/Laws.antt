@@ -1,20 +1,18 @@
 -- Laws of the search for where marks come to, and of the faults that follow from it.
 use Prim.Native.Nat.{ℕ, zero, suc, _+_, _-_, _*_, _/_, _%_, _<_, _≤_}
 use mathlib.Core.Path.{_≡_, refl, sym, ap, ap₂, fun-ext, _∙_}
-use mathlib.Core.Bool.{Bool, true, false, cond, _&&_, _||_, or-true, and-false}
+use mathlib.Core.Bool.{Bool, true, false, cond, _||_, or-true}
 use mathlib.Core.List.{List, [], _∷_}
 use native.Mathlib.Decide.{ℕ-discrete}
-use native.Mathlib.Nat.{add-zero, zero-add}
+use native.Mathlib.Nat.{zero-add}
 use native.Mathlib.Numerals.{add-one}
 use native.Mathlib.Omega.{arith}
-use lib.Dec.{eqb, ltb}
 use lib.ListN.{length, getD, replicate, length-replicate}
 use Rattle.laws.proofs.First.{clean-if}
 use Rattle.reach.specs.Reach.{Mem, here, there, Inside, mark}
 use Rattle.reach.specs.Search.{Searched, Visit, after, visitOf, visitAll}
 use Rattle.reach.proofs.Laws.{length-mark}
 use Rattle.reach.proofs.Search.{visits-none, visits-more, search-from, taken, finish, tail-le, queued-below}
-use Rattle.table.specs.declared.Row.{Row}
 use Rattle.table.specs.declared.Verdict.{Verdict}
 use Rattle.table.specs.declared.Verdict.the-variants.{Accepted}
 use Rattle.table.specs.declared.index.Index.{Index}

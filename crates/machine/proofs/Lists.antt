@@ -1,40 +1,37 @@
 -- The machine's text is the rules' text.
-use Prim.Native.Nat.{ℕ, zero, suc, _+_, _-_, _<_, _≤_}
+use Prim.Native.Nat.{ℕ, zero, suc, _+_, _-_, _≤_}
 use mathlib.Core.Path.{_≡_, refl, ap, sym, _∙_}
-use mathlib.Core.Bool.{Bool, true, false, cond}
 use mathlib.Core.List.{List, [], _∷_, _++_, map, append-assoc}
 use mathlib.Core.Option.{Option, none, some}
 use mathlib.Core.Logic.{_⊎_, inl, inr, ⊎-elim}
 use native.Mathlib.Omega.{arith}
-use lib.ListN.{length, getD, drop, replicate, length-append, length-map, length-drop, length-replicate, getElem? as nth}
+use lib.ListN.{length, drop, replicate, length-append, length-map, length-drop, length-replicate, getElem? as nth}
 use Rattle.table.specs.declared.Verdict.the-variants.{Accepted}
 use Rattle.table.specs.Index.{indexOf}
 use Rattle.declarations.specs.Program.{procedureIn, localCount}
 use Rattle.judging.specs.Judging.{judgeOf}
 use Rattle.acceptance.specs.Judged.{Bytes, Judged}
 use Rattle.acceptance.proofs.Judged.{judged}
-use Rattle.semantics.specs.Machine.{Value, num, obj, toLocal, toField, toRecord, Cell, gone, here, Entry, entry, Frame, frame, State, state, Outcome, next, finished, stopped, stuck, liveCount}
+use Rattle.semantics.specs.Machine.{Value, num, Cell, gone, here, Entry, Frame, frame, state}
 use Rattle.semantics.specs.Step.{startLocals}
 use Rattle.semantics.specs.Calls.{Call, call, listOf, callsOf}
-use Rattle.semantics.specs.History.{Base, base, Event, moment, ended, bury, restored, afterwards, Run, ran, afterMoment, onward, go, begin, eventsOf, baseAfter, history, nothing, lastBase}
-use Rattle.semantics.specs.Text.{decimal, spaced, values, fieldsIn, fieldsText, entryLine, entryLines, callLine, callLines, storeLines, textOf}
+use Rattle.semantics.specs.History.{Base, base, Event, moment, ended, bury, restored, afterwards, Run, ran, go, begin, eventsOf, baseAfter, history, nothing, lastBase}
+use Rattle.semantics.specs.Text.{values, fieldsIn, fieldsText, entryLine, entryLines, callLine, callLines, storeLines, textOf}
 use Rattle.semantics.specs.Run.{historyOf}
 use Rattle.semantics.specs.Callable.{Callable, GoodCall}
 use Rattle.semantics.specs.Claim.{All, none-left, also, IsNumber}
 use Rattle.semantics.proofs.Changes.{clash}
 use Rattle.semantics.proofs.Sounds.{nth-app}
 use Rattle.semantics.proofs.Typing.{_⊑_, snoc-more, snoc-last}
-use Rattle.semantics.proofs.Running.{OutcomeOk, Rest}
-use Rattle.semantics.proofs.Steps.{StateOk, DidAt}
+use Rattle.semantics.proofs.Steps.{StateOk}
 use Rattle.semantics.proofs.Invariant.{BaseOk, call-run, nothing-ok, begin-ok, buried-count, buried-dead}
-use Rattle.semantics.proofs.Ends.{ends, last-append, last-quiet, Quiet, go-quiet}
+use Rattle.semantics.proofs.Ends.{ends, last-append, Quiet, go-quiet}
 use Rattle.semantics.proofs.Callable.{good-calls}
-use Rattle.state.specs.declared.Reference.{Reference}
 use Rattle.state.specs.declared.Operand.{Operand}
-use Rattle.state.specs.declared.Operand.the-variants.{Empty, Number, Record, Refer}
-use Rattle.machine.specs.Machine.{MFrame, mframe, MRoom, mroom, MEntry, mentry, MState, mstate, MOutcome, mnext, mfinished, mstopped, mbroken, roomOf}
-use Rattle.machine.specs.Represents.{Shows, empty, number, whole, toALocal, toAField, toARecord, ShowsAll, no-more, and, ShowsLocals, no-local, and-local, ShowsFrames, no-frame, and-frame, ShowsStore, no-entry, and-entry, ShowsRooms, usedCount, Represents, BaseShown, SameOutcome, goes-on, stops, never}
-use Rattle.machine.specs.Runs.{MEnd, mend, mrow, mgo}
+use Rattle.state.specs.declared.Operand.the-variants.{Empty, Number}
+use Rattle.machine.specs.Machine.{mframe, MRoom, mroom, MEntry, roomOf}
+use Rattle.machine.specs.Represents.{number, whole, toALocal, toAField, toARecord, ShowsAll, no-more, and, no-frame, and-frame, ShowsStore, no-entry, and-entry, ShowsRooms, usedCount, Represents, BaseShown}
+use Rattle.machine.specs.Runs.{MEnd, mgo}
 use Rattle.machine.specs.Lists.{MBase, mbase, mnothing, mafter, numbersOf, mbegin, mline, mlines, mlast, mvalues, fieldsOfRoom, mfields, mentryLine, mentryLines, mstoreLines, mtext}
 use Rattle.machine.proofs.Shows.{all-more, start-shows, store-more}
 use Rattle.machine.proofs.Targets.{room-live, room-gone}

@@ -4,7 +4,7 @@ use mathlib.Core.Path.{_≡_, refl, ap, sym, _∙_}
 use mathlib.Core.Bool.{Bool, true, false, cond, _&&_}
 use mathlib.Core.Logic.{_⊎_, inl, inr}
 use mathlib.Core.List.{List, [], _∷_}
-use mathlib.Core.Option.{Option, none, some}
+use mathlib.Core.Option.{none, some}
 use native.Mathlib.Numerals.{add-one}
 use native.Mathlib.Omega.{arith}
 use native.Mathlib.Decide.{decLt}
@@ -19,10 +19,10 @@ use Rattle.state.specs.Layout.{entryCell, roomCell, allCells}
 use Rattle.state.specs.Cells.{moved}
 use Rattle.state.specs.Rooms.{isLive, firstFree}
 use Rattle.state.specs.Entries.{isUnder, lastUnder, addedIn, removedIn}
-use Rattle.machine.specs.Machine.{MRoom, mroom, MEntry, mentry, held, freeRoom, roomOf, putRoom, findEntry, dropEntry}
+use Rattle.machine.specs.Machine.{mroom, MEntry, mentry, held, freeRoom, roomOf, putRoom, findEntry, dropEntry}
 use Rattle.machine.specs.Views.{upFrom, tab, roomBy, roomIn, roomsIn, entryIn, entriesIn, Same}
 use Rattle.machine.proofs.Targets.{put-room-set}
-use Rattle.machine.proofs.Views.{length-up, held-getD, tab-same, room-same, rooms-same, entries-same, same-refl, set-same, pair-same, pair-first, pair-next, length-moved, moved-other, moved-same, moved-there, up-at, up-set, up-shift}
+use Rattle.machine.proofs.Views.{length-up, held-getD, tab-same, room-same, entries-same, same-refl, pair-same, pair-first, pair-next, length-moved, moved-other, moved-same, moved-there, up-at, up-set, up-shift}
 
 -- Tables
 module _ {A : Type 0} (f : ℕ → A) where
@@ -130,10 +130,6 @@ module _ (cs : List Operand) (whole : length cs ≡ allCells) (few : (r : ℕ) �
       apart : (r i : ℕ) → (r ≡ m → ⊥) → roomCell r ≤ i → i < roomCell r + 9 → Dec (r < m) → (i < roomCell m) ⊎ (roomCell m + 9 ≤ i)
       apart r i n a b (yes l) = inl (omega arith)
       apart r i n a b (no l) = inr (omega arith)
-
-  -- a cell below the rooms set
-  pub rooms-stay : (o : ℕ) (x : Operand) → o < 672 → roomsIn (set cs o x) ≡ roomsIn cs
-  rooms-stay o x l = rooms-same cs (set cs o x) few (set-same cs o x 672 1824 (inl l))
 
   -- a field put into the record in a room
   pub field-put : (m j : ℕ) (x : Operand) → j < secondOf (headIn cs m) → roomsIn (set cs (roomCell m + 1 + j) x) ≡ putRoom (roomsIn cs) m j x

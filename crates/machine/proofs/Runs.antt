@@ -1,29 +1,26 @@
 -- A call on the machine ends as the rules say.
-use Prim.Native.Nat.{ℕ, zero, suc, _+_, _-_, _<_, _≤_}
-use mathlib.Core.Path.{_≡_, refl, ap, sym, _∙_}
+use Prim.Native.Nat.{ℕ, zero, suc, _-_}
+use mathlib.Core.Path.{_≡_, refl, sym, _∙_}
 use mathlib.Core.Bool.{Bool, true, false, cond}
-use mathlib.Core.List.{List, [], _∷_, _++_}
-use mathlib.Core.Option.{Option, none, some}
-use native.Mathlib.Omega.{arith}
+use mathlib.Core.List.{List, [], _∷_}
+use mathlib.Core.Option.{Option, some}
 use lib.ListN.{length, getD, getElem? as nth}
 use Rattle.table.specs.declared.Row.{Row}
 use Rattle.table.specs.Index.{indexOf}
 use Rattle.declarations.specs.Program.{number, procedureIn, localCount, localKind}
 use Rattle.effects.specs.Effects.{Effect}
-use Rattle.operands.specs.Flow.{effectIn}
 use Rattle.leaks.specs.Leaks.{guardedMarks}
 use Rattle.acceptance.proofs.Regular.{step-takes}
 use Rattle.acceptance.specs.Judged.{Judged}
-use Rattle.semantics.specs.Machine.{Value, Cell, Entry, Frame, frame, State, state, Outcome, next, finished, stopped, stuck}
-use Rattle.semantics.specs.Step.{pushedOn, Taken, missing, took, taken, topKind, withTaken, actions, instruction, effectAt, act, step}
+use Rattle.semantics.specs.Machine.{Value, Cell, Entry, Frame, State, state, Outcome, finished, stopped, stuck}
+use Rattle.semantics.specs.Step.{Taken, missing, took, taken, topKind, withTaken, actions, instruction, effectAt, act, step}
 use Rattle.semantics.specs.History.{Event, Run, ran, afterMoment, onward, go, rowUp}
 use Rattle.semantics.specs.Claim.{All, IsNumber}
-use Rattle.semantics.proofs.Changes.{clash}
 use Rattle.semantics.proofs.Typing.{_⊑_}
 use Rattle.semantics.proofs.Running.{OutcomeOk}
 use Rattle.semantics.proofs.Steps.{StateOk, DidAt, step-ok}
 use Rattle.state.specs.declared.Operand.{Operand}
-use Rattle.machine.specs.Machine.{MFrame, mframe, MRoom, MEntry, MState, mstate, MOutcome, mnext, mfinished, mstopped, mbroken, topmost, doings}
+use Rattle.machine.specs.Machine.{MFrame, MRoom, MEntry, MState, mstate, MOutcome, mfinished, mstopped}
 use Rattle.machine.specs.Represents as Rep
 use Rattle.machine.specs.Represents.{ShowsAll, ShowsFrames, and-frame, Represents, BaseShown, SameOutcome, goes-on, ends, stops, never}
 use Rattle.machine.specs.Runs.{takesAt, did, mstep, mrow, MEnd, mend, monward, mgo}

@@ -1,25 +1,22 @@
 -- Places, lists and references that stand for each other.
-use Prim.Native.Nat.{ℕ, zero, suc, _+_, _-_, _<_, _≤_}
+use Prim.Native.Nat.{ℕ, zero, suc, _+_, _-_, _≤_}
 use mathlib.Core.Path.{_≡_, refl, ap, sym, _∙_}
-use mathlib.Core.Bool.{Bool, true, false, cond, _&&_, true≢false}
+use mathlib.Core.Bool.{Bool, true, false, cond, true≢false}
 use mathlib.Core.List.{List, [], _∷_, _++_}
 use mathlib.Core.Option.{Option, none, some}
-use mathlib.Core.Logic.{_⊎_, inl, inr, ⊎-elim}
 use native.Mathlib.Omega.{arith}
-use borrow.Author.Tests.{eqb-true, eqb-false, eq-eqb, ne-eqb}
+use borrow.Author.Tests.{eqb-true, eqb-false, ne-eqb}
 use lib.Dec.{eqb}
-use lib.ListN.{length, set, take, drop, replicate, getElem? as nth}
-use Rattle.semantics.specs.Machine.{Value, num, obj, toLocal, toField, toRecord, Cell, gone, here, Entry, entry, Frame, frame, content, localOf, putLocal, findKey, dropKey, Target, aNumber, aRecord, stale, wrong, inCell, inLocal, numberIn, inField, target}
+use lib.ListN.{length, set, replicate, getElem? as nth}
+use Rattle.semantics.specs.Machine.{Value, num, Entry, Frame, frame, content, localOf, putLocal}
 use Rattle.semantics.specs.Step.{pushedOn, startLocals}
 use Rattle.semantics.proofs.Changes.{clash}
 use Rattle.semantics.proofs.Typing.{_⊑_}
-use Rattle.state.specs.declared.Reference.{Reference}
-use Rattle.state.specs.declared.Reference.the-variants.{Local, Field, Record as Whole}
 use Rattle.state.specs.declared.Operand.{Operand}
-use Rattle.state.specs.declared.Operand.the-variants.{Empty, Number, Record, Refer}
+use Rattle.state.specs.declared.Operand.the-variants.{Empty, Number}
 use Rattle.machine.specs.Machine as M
-use Rattle.machine.specs.Machine.{MFrame, mframe, MRoom, mroom, MEntry, mentry, MTarget, mNumber, mRecord, mStale, mWrong, backTo, held, roomOf, localAt, putAt, findEntry, dropEntry, inRoom, inOperand, fieldIn, leads}
-use Rattle.machine.specs.Represents.{Shows, empty, number, whole, toALocal, toAField, toARecord, ShowsAll, no-more, and, ShowsLocals, no-local, and-local, ShowsFrames, no-frame, and-frame, ShowsStore, no-entry, and-entry, ShowsRooms}
+use Rattle.machine.specs.Machine.{MFrame, mframe, MEntry, backTo, held, localAt, putAt}
+use Rattle.machine.specs.Represents.{Shows, empty, number, whole, toALocal, toAField, toARecord, ShowsAll, no-more, and, ShowsLocals, no-local, and-local, ShowsFrames, no-frame, and-frame, ShowsStore, no-entry, and-entry}
 
 -- more records and frames
 module _ {R D R′ D′ : List ℕ} (g : _⊑_ R R′) (w : _⊑_ D D′) where

@@ -1,10 +1,9 @@
 -- The machine's instruction does what the rules' does.
 use Prim.Native.Nat.{ℕ, zero, suc, _+_, _/_, _%_, _<_, _≤_}
 use mathlib.Core.Path.{_≡_, refl, ap, sym, _∙_}
-use mathlib.Core.Bool.{Bool, true, false, cond, _&&_, true≢false}
+use mathlib.Core.Bool.{Bool, true, false, cond}
 use mathlib.Core.List.{List, [], _∷_, _++_}
 use mathlib.Core.Option.{Option, none, some}
-use mathlib.Core.Logic.{_⊎_, inl, inr, ⊎-elim}
 use native.Mathlib.Omega.{arith}
 use borrow.Author.Tests.{ltb-true, ltb-false, lt-ltb, le-ltb}
 use lib.Dec.{eqb, ltb}
@@ -13,8 +12,8 @@ use Rattle.arithmetic.specs.declared.Calculated.{Calculated}
 use Rattle.arithmetic.specs.declared.Calculated.the-variants.{Value as Gives, OutOfRange, Unknown}
 use Rattle.arithmetic.specs.Arithmetic.{calculation}
 use Rattle.semantics.specs.Machine as Rules
-use Rattle.semantics.specs.Machine.{Value, num, obj, toLocal, toField, toRecord, Cell, gone, here, Entry, entry, Frame, frame, State, state, Outcome, next, finished, stopped, stuck, content, localOf, findKey, dropKey, liveCount, Target, aNumber, aRecord, stale, wrong, inCell, target, writeFrames, writeRecords}
-use Rattle.semantics.specs.Step.{pushedOn, Taken, missing, took, alsoTaken, taken, one, two, withNumber, withRecord, numberAt, recordAt, fieldsAt, withLocal, isObject, fillable, noneHeld, nothingUnder, fieldReference, underKey, startLocals, returned, push, pushAndSet, pushWithRecords, pushWithStore, goTo, lead, calculated, actions}
+use Rattle.semantics.specs.Machine.{Value, num, obj, Cell, gone, here, Entry, entry, Frame, frame, state, Outcome, next, stopped, stuck, content, localOf, liveCount, Target, aNumber, inCell, target, writeFrames, writeRecords}
+use Rattle.semantics.specs.Step.{pushedOn, Taken, missing, took, alsoTaken, taken, one, two, withNumber, withRecord, numberAt, recordAt, fieldsAt, withLocal, isObject, fillable, noneHeld, nothingUnder, fieldReference, underKey, startLocals, returned, push, pushAndSet, pushWithRecords, pushWithStore, lead, calculated, actions}
 use Rattle.semantics.proofs.Changes.{clash}
 use Rattle.semantics.proofs.Typing.{_⊑_, snoc-more, snoc-last}
 use Rattle.state.specs.declared.Reference.{Reference}
@@ -22,11 +21,11 @@ use Rattle.state.specs.declared.Reference.the-variants.{Local, Field, Record as
 use Rattle.state.specs.declared.Operand.{Operand}
 use Rattle.state.specs.declared.Operand.the-variants.{Empty, Number, Record, Refer}
 use Rattle.machine.specs.Machine as M
-use Rattle.machine.specs.Machine.{MFrame, mframe, MRoom, mroom, MEntry, mentry, MState, mstate, MOutcome, mnext, mfinished, mstopped, mbroken, MTarget, mNumber, mRecord, mStale, mWrong, top, second, backTo, topmost, held, freeRoom, roomOf, leads, asNumber, asRecord, asReference, numberFrom, recordFrom, fieldsFrom, fieldOf, underEntry, writeAt, writeRoom, withFrames, on, onWith, leadsTo, calculates, doings}
+use Rattle.machine.specs.Machine.{MFrame, mframe, MRoom, mroom, MEntry, mentry, mstate, MOutcome, mnext, mstopped, mbroken, MTarget, top, second, backTo, topmost, held, freeRoom, roomOf, asNumber, asRecord, asReference, numberFrom, recordFrom, fieldsFrom, fieldOf, underEntry, writeAt, writeRoom, withFrames, on, onWith, leadsTo, calculates, doings}
 use Rattle.machine.specs.Represents as Rep
-use Rattle.machine.specs.Represents.{Shows, empty, number, whole, toALocal, toAField, toARecord, ShowsAll, no-more, and, ShowsLocals, no-local, and-local, ShowsFrames, no-frame, and-frame, ShowsStore, no-entry, and-entry, ShowsRooms, Represents, BaseShown, SameOutcome, goes-on, ends, stops, never}
-use Rattle.machine.proofs.Shows.{shows-more, all-more, locals-more, frames-more, store-more, push-all, all-length, frames-length, held-shows, set-shows, field-shows, start-shows, write-shows}
-use Rattle.machine.proofs.Targets.{Same, sameNumber, sameRecord, sameStale, anything, leads-same, room-live, room-gone, rooms-written, rooms-freed, rooms-filled, free-used, SameKey, no-key, a-key, find-same, drop-same, store-length}
+use Rattle.machine.specs.Represents.{Shows, empty, number, whole, toALocal, toAField, toARecord, ShowsAll, no-more, and, ShowsLocals, ShowsFrames, no-frame, and-frame, ShowsStore, and-entry, ShowsRooms, SameOutcome, goes-on, ends, stops, never}
+use Rattle.machine.proofs.Shows.{all-more, locals-more, frames-more, store-more, push-all, all-length, frames-length, held-shows, set-shows, field-shows, start-shows, write-shows}
+use Rattle.machine.proofs.Targets.{Same, sameNumber, sameRecord, sameStale, anything, leads-same, room-live, rooms-written, rooms-freed, rooms-filled, free-used, SameKey, no-key, a-key, find-same, drop-same, store-length}
 
 -- what is taken lies on top, in the order in which it was pushed
 pub taken-split : (ks : List ℕ) (vs us rest : List Value) → taken ks vs ≡ took us rest → (vs ≡ pushedOn us rest) × (length us ≡ length ks)

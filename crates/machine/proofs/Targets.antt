@@ -1,28 +1,27 @@
 -- References lead to the same; rooms hold the same records.
 use Prim.Native.Nat.{ℕ, zero, suc, _+_, _-_, _<_, _≤_}
 use mathlib.Core.Path.{_≡_, refl, ap, sym, _∙_}
-use mathlib.Core.Bool.{Bool, true, false, cond, _&&_, true≢false}
+use mathlib.Core.Bool.{Bool, true, false, cond, _&&_}
 use mathlib.Core.List.{List, [], _∷_, _++_}
 use mathlib.Core.Option.{Option, none, some}
 use mathlib.Core.Logic.{_⊎_, inl, inr, ⊎-elim}
 use native.Mathlib.Omega.{arith}
 use native.Mathlib.Decide.{ℕ-discrete}
-use borrow.Author.Tests.{eqb-true, eqb-false, eq-eqb, ne-eqb}
+use borrow.Author.Tests.{eqb-true, eqb-false, eq-eqb}
 use lib.Dec.{eqb}
 use lib.ListN.{length, set, length-append, length-set, getElem? as nth}
-use Rattle.semantics.specs.Machine.{Value, num, obj, toLocal, toField, toRecord, Cell, gone, here, Entry, entry, Frame, frame, content, localOf, findKey, dropKey, liveCount, lives, putField, Target, aNumber, aRecord, stale, wrong, inCell, inLocal, numberIn, inField, target}
+use Rattle.semantics.specs.Machine.{Value, num, Cell, gone, here, Entry, entry, Frame, findKey, dropKey, putField, Target, aNumber, aRecord, stale, wrong, inCell, inLocal, numberIn, inField, target}
 use Rattle.semantics.proofs.Changes.{clash, live-put, live-snoc}
 use Rattle.semantics.proofs.Counts.{put-set}
-use Rattle.semantics.proofs.Sounds.{nth-set, nth-back, nth-put, nth-app, nth-snoc}
-use Rattle.semantics.proofs.Typing.{_⊑_, snoc-more, snoc-last}
+use Rattle.semantics.proofs.Sounds.{nth-put, nth-app}
+use Rattle.semantics.proofs.Typing.{snoc-more, snoc-last}
 use Rattle.state.specs.declared.Reference.{Reference}
-use Rattle.state.specs.declared.Reference.the-variants.{Local, Field, Record as Whole}
 use Rattle.state.specs.declared.Operand.{Operand}
-use Rattle.state.specs.declared.Operand.the-variants.{Empty, Number, Record, Refer}
+use Rattle.state.specs.declared.Operand.the-variants.{Number, Refer}
 use Rattle.machine.specs.Machine as M
-use Rattle.machine.specs.Machine.{MFrame, mframe, MRoom, mroom, MEntry, mentry, MTarget, mNumber, mRecord, mStale, mWrong, held, freeRoom, roomOf, localAt, putRoom, findEntry, dropEntry, inRoom, inOperand, fieldIn, leads}
+use Rattle.machine.specs.Machine.{MFrame, MRoom, mroom, MEntry, mentry, MTarget, mNumber, mRecord, mStale, freeRoom, roomOf, putRoom, findEntry, dropEntry, inRoom, inOperand, fieldIn, leads}
 use Rattle.machine.specs.Represents.{Shows, empty, number, whole, toALocal, toAField, toARecord, ShowsAll, ShowsFrames, ShowsStore, no-entry, and-entry, ShowsRooms, usedCount}
-use Rattle.machine.proofs.Shows.{shows-more, all-more, field-shows, put-shows, local-shows}
+use Rattle.machine.proofs.Shows.{all-more, field-shows, put-shows, local-shows}
 
 -- targets that are the same; where the rules find what no reference leads to, anything
 pub data Same (R D : List ℕ) : MTarget → Target → Type 0 where

@@ -7,7 +7,7 @@ use mathlib.Core.List.{List, [], _∷_, _++_, reverse, reverseAux, append-nil, a
 use native.Mathlib.Omega.{arith}
 use native.Mathlib.Decide.{decLt}
 use native.Mathlib.Numerals.{add-one}
-use borrow.Author.Tests.{lt-ltb, le-ltb, le-leb, ne-eqb}
+use borrow.Author.Tests.{lt-ltb, le-ltb, le-leb}
 use lib.Dec.{ltb, leb, leb·suc-suc}
 use lib.ListN.{length, getD, set, take, drop, replicate, getElem? as nth, length-set, List·getD-eq-default}
 use lib.Seq.{getD-set-same, getD-set-other, set-out}
@@ -17,7 +17,7 @@ use Rattle.state.specs.declared.frames.State.{State}
 use Rattle.state.specs.Coding.{secondOf, thirdOf}
 use Rattle.state.specs.Cells.{copied, moved, emptied}
 use Rattle.state.specs.Layout.{operandCell, localCell, suspendedCell, entryCell, roomCell, allCells}
-use Rattle.state.specs.Frames.{pushed, pushedIn, topAt, dropped, loadedIn, clearedIn, storedIn, suspendedIn, resumed, enteredIn, received, receivedIn}
+use Rattle.state.specs.Frames.{pushed, pushedIn, topAt, dropped, loadedIn, storedIn, suspendedIn, enteredIn, received, receivedIn}
 use Rattle.machine.specs.Machine.{MFrame, top, second, backTo, topmost, held}
 use Rattle.machine.specs.Views.{upFrom, downFrom, operandsIn, localsIn, frameIn, belowIn, tab, roomBy, roomIn, roomsIn, entriesIn, Same}
 
@@ -42,9 +42,6 @@ back-reverse xs ys = go xs ys ∙ reverseAux-eq xs ys
     go : (xs ys : List Operand) → backTo xs ys ≡ reverseAux xs ys
     go [] ys = refl
     go (x ∷ xs) ys = go xs (x ∷ ys)
-
-pub topmost-reverse : (k : ℕ) (xs : List Operand) → topmost k xs ≡ reverse (take k xs)
-topmost-reverse k xs = back-reverse (take k xs) [] ∙ append-nil (reverse (take k xs))
 
 -- How many there are.
 pub length-up : (cs : List Operand) (b n : ℕ) → length (upFrom cs b n) ≡ n
@@ -78,9 +75,6 @@ same-refl cs a b i l m = refl
 
 pub same-trans : (cs ds es : List Operand) (a b : ℕ) → Same a b cs ds → Same a b ds es → Same a b cs es
 same-trans cs ds es a b p q i l m = q i l m ∙ p i l m
-
-pub same-part : (cs ds : List Operand) (a b c d : ℕ) → a ≤ c → d ≤ b → Same a b cs ds → Same c d cs ds
-same-part cs ds a b c d p q s i l m = s i (omega arith) (omega arith)
 
 pub up-same : (cs ds : List Operand) (b n : ℕ) → Same b (b + n) cs ds → upFrom ds b n ≡ upFrom cs b n
 unfolding upFrom
@@ -336,19 +330,6 @@ module _ (cs : List Operand) (s : State) where
   pub length-put : (l : ℕ) (x : Operand) → length (putLocal cs s l x) ≡ length cs
   length-put l x = length-cond (ltb l (s .count)) cs (set cs (localCell (s .depth) + l) x) (length-set cs (localCell (s .depth) + l) x)
 
-  pub length-loaded : (l : ℕ) → length (loadedIn cs s l) ≡ length cs
-  length-loaded l = length-cond (ltb (s .height) 16) cs _ (go (ltb l (s .count)))
-    where
-      go : (t : Bool) → length (cond t (copied cs (operandCell (s .depth) + s .height) (localCell (s .depth) + l)) (set cs (operandCell (s .depth) + s .height) Empty)) ≡ length cs
-      go true = length-copied cs (operandCell (s .depth) + s .height) (localCell (s .depth) + l)
-      go false = length-set cs (operandCell (s .depth) + s .height) Empty
-
-  pub length-cleared : (l : ℕ) → length (clearedIn cs s l) ≡ length cs
-  length-cleared l = length-put l Empty
-
-  pub length-stored : (l : ℕ) → length (storedIn cs s l) ≡ length cs
-  length-stored l = length-cond (ltb 0 (s .height)) cs _ (length-cond (ltb l (s .count)) cs _ (length-copied cs (localCell (s .depth) + l) (operandCell (s .depth) + (s .height - 1))))
-
   pub length-suspended : length (suspendedIn cs s) ≡ length cs
   length-suspended = simp length-set
 
@@ -522,11 +503,3 @@ suspend-is cs s whole shallow named inside low few lows fews =
 
     q : (65536 * s .procedure + s .at) % 65536 ≡ s .at
     q = omega arith
-
-pub resume-is : (cs : List Operand) (s : State) → 0 < s .depth → belowIn cs (s .depth) ≡ frameIn cs (resumed cs s) ∷ belowIn cs (s .depth - 1)
-unfolding belowIn
-resume-is cs s h = go (s .depth) refl
-  where
-    go : (d : ℕ) → s .depth ≡ d → belowIn cs (s .depth) ≡ frameIn cs (resumed cs s) ∷ belowIn cs (s .depth - 1)
-    go zero e = absurd (omega arith)
-    go (suc d) e = let p : s .depth - 1 ≡ d = omega arith in rw (ne-eqb (s .depth) 0 (λ q. omega arith), p, e)

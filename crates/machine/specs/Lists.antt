@@ -10,10 +10,9 @@ use Rattle.semantics.specs.Machine.{num, state, finished, stopped}
 use Rattle.semantics.specs.Calls.{Call, call}
 use Rattle.semantics.specs.Ascii.{ascii}
 use Rattle.semantics.specs.Text.{decimal, spaced, callLine}
-use Rattle.state.specs.declared.Reference.{Reference}
 use Rattle.state.specs.declared.Operand.{Operand}
 use Rattle.state.specs.declared.Operand.the-variants.{Empty, Number, Record, Refer}
-use Rattle.machine.specs.Machine.{MFrame, mframe, MRoom, mroom, MEntry, mentry, MState, mstate, MOutcome, mnext, mfinished, mstopped, mbroken, roomOf}
+use Rattle.machine.specs.Machine.{mframe, MRoom, mroom, MEntry, mentry, MState, mstate, mnext, mfinished, mstopped, mbroken, roomOf}
 use Rattle.machine.specs.Runs.{MEnd, mend, mrow, mgo}
 
 -- what lasts from call to call: rooms, how many records there have been, the store, how many frames there have been

@@ -1,11 +1,10 @@
 -- The machine as its code has it, on lists: rooms for records, and references that tell where to look.
 use Prim.Native.Nat.{ℕ, zero, suc, _+_, _/_, _%_}
-use mathlib.Core.Bool.{Bool, true, false, cond, _&&_}
-use mathlib.Core.List.{List, [], _∷_, _++_, map}
+use mathlib.Core.Bool.{cond, _&&_}
+use mathlib.Core.List.{List, [], _∷_, _++_}
 use mathlib.Core.Option.{Option, none, some}
 use lib.Dec.{eqb, ltb}
-use lib.ListN.{length, getD, set, take, drop, replicate, getElem? as nth}
-use Rattle.table.specs.declared.Row.{Row}
+use lib.ListN.{length, set, take, drop, replicate, getElem? as nth}
 use Rattle.arithmetic.specs.declared.Calculated.{Calculated}
 use Rattle.arithmetic.specs.declared.Calculated.the-variants.{Value, OutOfRange, Unknown}
 use Rattle.arithmetic.specs.Arithmetic.{calculation}

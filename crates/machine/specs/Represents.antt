@@ -1,17 +1,15 @@
 -- What the machine's state stands for in the rules.
-use Prim.Native.Nat.{ℕ, zero, suc, _+_, _<_, _≤_}
+use Prim.Native.Nat.{ℕ, suc}
 use mathlib.Core.Path.{_≡_}
-use mathlib.Core.Bool.{Bool, true, false}
 use mathlib.Core.List.{List, [], _∷_}
 use mathlib.Core.Option.{Option, none, some}
 use lib.ListN.{length, getElem? as nth}
 use Rattle.semantics.proofs.Typing.{_⊑_}
-use Rattle.semantics.specs.Machine.{Value, num, obj, toLocal, toField, toRecord, Cell, gone, here, Entry, entry, Frame, frame, State, state, Outcome, next, finished, stopped, stuck, liveCount, Target, aNumber, aRecord, stale, wrong}
-use Rattle.state.specs.declared.Reference.{Reference}
+use Rattle.semantics.specs.Machine.{Value, num, obj, toLocal, toField, toRecord, Cell, here, Entry, entry, Frame, frame, state, Outcome, next, finished, stopped, stuck, liveCount}
 use Rattle.state.specs.declared.Reference.the-variants.{Local, Field, Record as Whole}
 use Rattle.state.specs.declared.Operand.{Operand}
 use Rattle.state.specs.declared.Operand.the-variants.{Empty, Number, Record, Refer}
-use Rattle.machine.specs.Machine.{MFrame, mframe, MRoom, mroom, MEntry, mentry, MState, mstate, MOutcome, mnext, mfinished, mstopped, mbroken, MTarget, mNumber, mRecord, mStale, mWrong}
+use Rattle.machine.specs.Machine.{MFrame, mframe, MRoom, mroom, MEntry, mentry, mstate, MOutcome, mnext, mfinished, mstopped}
 
 -- R has the room of each record ever made, D the depth of each frame ever made: a reference tells where to look, and that never changes
 pub data Shows (R D : List ℕ) : Operand → Option Value → Type 0 where

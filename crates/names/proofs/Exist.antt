@@ -5,16 +5,15 @@ use mathlib.Core.Bool.{Bool, true, false, _&&_, _||_, or-true}
 use mathlib.Core.List.{List}
 use mathlib.Core.Logic.{_⊎_, inl, inr}
 use mathlib.Mathlib.Data.Bool.Basic.{or-eq-false-eq-eq-false-and-eq-false as neither}
-use native.Mathlib.Nat.{zero-add}
 use native.Mathlib.Omega.{arith}
 use borrow.Author.Tests.{leb-false, eqb-true, eq-eqb, not-false}
 use lib.Dec.{eqb, leb}
 use Rattle.laws.specs.Lists.{count}
-use Rattle.laws.proofs.First.{all-fine, clean-if}
+use Rattle.laws.proofs.First.{all-fine}
 use Rattle.table.specs.declared.Verdict.the-variants.{Accepted, Refused}
 use Rattle.table.specs.declared.index.Index.{Index}
 use Rattle.table.specs.declared.index.ProcedureEntry.{ProcedureEntry}
-use Rattle.table.specs.Format.{typeKind, fieldKind, procedureKind, localKind, resultKind, instructionKind, recordSort, recordReference}
+use Rattle.table.specs.Format.{typeKind, fieldKind, procedureKind, localKind, resultKind, instructionKind, recordSort}
 use Rattle.table.specs.Rows.{rowCount, rowAt, kindAt, isKind}
 use Rattle.declarations.specs.Program.{typeIn, procedureIn}
 use Rattle.declarations.proofs.Passes.{refused-accepted, unfaulted}

@@ -1,12 +1,11 @@
 // The names pass: refusals 5 and 6.
 ghost use mathlib.Core.Path.{_≡_};
-ghost use mathlib.Core.Bool.{_||_, cond};
+ghost use mathlib.Core.Bool.{cond};
 ghost use Prim.Native.Nat.{_+_, _%_, _/_, _<_};
-ghost use lib.Dec.{eqb, leb};
+ghost use lib.Dec.{eqb};
 ghost use lib.ListN.{getD};
 ghost use mathlib.Core.Bool.{_&&_};
 ghost use Rattle.table.specs.Format.{procedureKind};
-ghost use Rattle.declarations.specs.Program.{fieldCount};
 ghost use Rattle.table.specs.Flags.{hasType};
 ghost use Rattle.names.specs.Names.{namesWith, badEnd, notLower, noSuchType, noSuchName, names, nothing, noSuchField, missing, nameFault};
 use table::Row;

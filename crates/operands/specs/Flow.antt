@@ -1,16 +1,15 @@
 -- What the operands pass gives for each instruction of an accepted table, in the form in which a proof about running uses it.
 use Prim.Native.Nat.{ℕ, _+_, _≤_}
 use mathlib.Core.Path.{_≡_}
-use mathlib.Core.Bool.{Bool, true, false}
+use mathlib.Core.Bool.{true, false}
 use mathlib.Core.List.{List, [], _∷_}
 use mathlib.Core.Logic.{_⊎_}
 use lib.ListN.{length}
-use Rattle.table.specs.declared.Row.{Row}
 use Rattle.table.specs.declared.index.Index.{Index}
 use Rattle.table.specs.declared.index.ProcedureEntry.{ProcedureEntry}
 use Rattle.table.specs.Format.{maxOperands, opBorrowFld, opExists, opCall}
 use Rattle.table.specs.Rows.{rowAt}
-use Rattle.declarations.specs.Program.{codeOf, procedureIn, isTarget}
+use Rattle.declarations.specs.Program.{codeOf, procedureIn}
 use Rattle.effects.specs.Kinds.{good}
 use Rattle.effects.specs.Effects.{Effect, effectOf}
 use Rattle.operands.specs.Operands.{namedType, kindsBefore, lastOfBlock}

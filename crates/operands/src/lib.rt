@@ -1,7 +1,7 @@
 // The operands pass: refusals 7 to 10.
 ghost use mathlib.Core.Path.{_≡_};
 ghost use Prim.Native.Nat.{_+_, _/_, _<_};
-ghost use mathlib.Core.Bool.{true, false, cond, not, _&&_, _||_};
+ghost use mathlib.Core.Bool.{true, false, cond, _||_};
 ghost use lib.Dec.{eqb, leb};
 ghost use Rattle.table.specs.Format.{opBorrowFld, opBranch, opBranchCond};
 ghost use Rattle.table.specs.Rows.{rowCount};

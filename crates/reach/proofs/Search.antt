@@ -4,7 +4,7 @@ use Prim.Native.Nat.{ℕ, suc, _+_, _<_, _≤_}
 use mathlib.Core.Path.{_≡_, refl, ap, sym, subst⁻¹, _∙_}
 use mathlib.Core.List.{List, [], _∷_}
 use mathlib.Core.Bool.{Bool, true, false, not, _&&_, false≢true, and-false}
-use mathlib.Core.Logic.{_⊎_, inl, inr, ⊎-elim}
+use mathlib.Core.Logic.{_⊎_, ⊎-elim}
 use native.Mathlib.Decide.{ℕ-discrete}
 use native.Mathlib.Omega.{arith}
 use borrow.Author.Tests.{ltb-true, lt-ltb, le-ltb, le-leb, lt-leb}
@@ -13,7 +13,7 @@ use lib.ListN.{length, getD, set, replicate, length-set, length-replicate}
 use lib.Seq.{getD-set-same, getD-set-other}
 use Rattle.reach.specs.Reach.{Mem, here, there, At, Inside, start, step, Reached, mark, iter, countTrue}
 use Rattle.reach.specs.Search.{Standing, followed, waiting, expanded, Visited, Searched, Visit, after, maxNode, isNew, visitOf, visitAll, isUnvisited, entering}
-use Rattle.reach.proofs.Laws.{at-below, set-old, set-inv, none-at, length-mark, mark-new, mark-inv, count-le, count-none, count-set, count-lt, settled}
+use Rattle.reach.proofs.Laws.{at-below, set-old, set-inv, none-at, length-mark, mark-new, mark-inv, count-le, count-set, count-lt, settled}
 
 module _ (succs : ℕ → List ℕ) (s : List Bool) where
   -- a node of s is reached, and so is a successor of a reached node

@@ -7,6 +7,7 @@ ghost use Rattle.records.specs.Packing.{packedState, packedIn, packOf, u
 use state::Operand;
 use state::frames::State;
 use state::rooms;
+use state::stops;
 use table::index::TypeEntry;
 
 // The state after a record was made in room r.
@@ -53,7 +54,7 @@ pub fn pack(s: State, cells: &mut [u64], named: TypeEntry, b: u16) -> State
 {
     let r = rooms::free_room(cells, s.free);
     if 128 <= r {
-        return s.stopped(37);
+        return s.stopped(stops::TOO_MANY_RECORDS);
     }
     pack_in(
         s,
@@ -79,7 +80,7 @@ fn unpack_from(s: State, cells: &mut [u64], c: u32, m: u8) -> State
     ensures { λ r. ⌜ after r (cellsOf (now (cells .exit))) ≡ unpackedFrom (cellsOf (now (cells .entry))) s c m ⌝ }
 {
     if !rooms::is_live(cells, c, m) {
-        return s.stopped(frame::BROKEN);
+        return s.stopped(stops::BROKEN);
     }
     let o = rooms::room_cell(m);
     let k = state::second_at(cells, o as usize);
@@ -94,9 +95,9 @@ pub fn unpack(s: State, cells: &mut [u64]) -> State
 {
     let top = s.top(cells, 0);
     match top {
-        Operand::Empty => s.stopped(frame::BROKEN),
-        Operand::Number(_) => s.stopped(frame::BROKEN),
+        Operand::Empty => s.stopped(stops::BROKEN),
+        Operand::Number(_) => s.stopped(stops::BROKEN),
         Operand::Record(c, m, _) => unpack_from(s, cells, c, m),
-        Operand::Refer(_) => s.stopped(frame::BROKEN),
+        Operand::Refer(_) => s.stopped(stops::BROKEN),
     }
 }

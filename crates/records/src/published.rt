@@ -10,6 +10,7 @@ ghost use Rattle.records.specs.Published.{withEntries, found, recordAt, 
 use state::Operand;
 use state::entries;
 use state::frames::State;
+use state::stops;
 
 // The state with n entries in the store.
 fn with_entries(mut s: State, n: u8) -> State
@@ -40,10 +41,10 @@ fn publish(s: State, cells: &mut [u64], y: u8, c: u32, m: u8) -> State
 {
     let n = s.entries;
     if found(s, cells, y) < n {
-        return s.stopped(33);
+        return s.stopped(stops::KEY_TAKEN);
     }
     if entries::ENTRIES <= n {
-        return s.stopped(38);
+        return s.stopped(stops::TOO_MANY_ENTRIES);
     }
     entries::put_entry(cells, n, y, s.number(cells, 0), c, m);
     with_entries(s, n + 1).drop_top(2).next()
@@ -54,14 +55,14 @@ pub fn move_to(s: State, cells: &mut [u64], b: u16) -> State
     ensures { λ r. ⌜ after r (cellsOf (now (cells .exit))) ≡ moveToOf (cellsOf (now (cells .entry))) s b ⌝ }
 {
     if !s.has_number(cells, 0) {
-        return s.stopped(frame::BROKEN);
+        return s.stopped(stops::BROKEN);
     }
     let x = s.top(cells, 1);
     match x {
-        Operand::Empty => s.stopped(frame::BROKEN),
-        Operand::Number(_) => s.stopped(frame::BROKEN),
+        Operand::Empty => s.stopped(stops::BROKEN),
+        Operand::Number(_) => s.stopped(stops::BROKEN),
         Operand::Record(c, m, _) => publish(s, cells, (b % 256) as u8, c, m),
-        Operand::Refer(_) => s.stopped(frame::BROKEN),
+        Operand::Refer(_) => s.stopped(stops::BROKEN),
     }
 }
 
@@ -71,7 +72,7 @@ fn withdraw(s: State, cells: &mut [u64], y: u8, i: u8) -> State
 {
     let n = s.entries;
     if n <= i {
-        return s.stopped(34);
+        return s.stopped(stops::NO_SUCH_KEY);
     }
     let w = entry_word(cells, i, y);
     entries::remove_entry(cells, n, i);
@@ -83,7 +84,7 @@ pub fn move_from(s: State, cells: &mut [u64], b: u16) -> State
     ensures { λ r. ⌜ after r (cellsOf (now (cells .exit))) ≡ moveFromOf (cellsOf (now (cells .entry))) s b ⌝ }
 {
     if !s.has_number(cells, 0) {
-        return s.stopped(frame::BROKEN);
+        return s.stopped(stops::BROKEN);
     }
     let y = (b % 256) as u8;
     withdraw(s, cells, y, found(s, cells, y))
@@ -94,7 +95,7 @@ fn borrow_entry(s: State, cells: &mut [u64], y: u8, i: u8) -> State
     ensures { λ r. ⌜ after r (cellsOf (now (cells .exit))) ≡ globalAt (cellsOf (now (cells .entry))) s y i ⌝ }
 {
     if s.entries <= i {
-        return s.stopped(34);
+        return s.stopped(stops::NO_SUCH_KEY);
     }
     frame::operations::settle(s, cells, 1, state::TO_RECORD, entry_word(cells, i, y))
 }
@@ -104,7 +105,7 @@ pub fn borrow_global(s: State, cells: &mut [u64], b: u16) -> State
     ensures { λ r. ⌜ after r (cellsOf (now (cells .exit))) ≡ globalOf (cellsOf (now (cells .entry))) s b ⌝ }
 {
     if !s.has_number(cells, 0) {
-        return s.stopped(frame::BROKEN);
+        return s.stopped(stops::BROKEN);
     }
     let y = (b % 256) as u8;
     borrow_entry(s, cells, y, found(s, cells, y))
@@ -122,7 +123,7 @@ pub fn exists(s: State, cells: &mut [u64], b: u16) -> State
     ensures { λ r. ⌜ after r (cellsOf (now (cells .exit))) ≡ existsOf (cellsOf (now (cells .entry))) s b ⌝ }
 {
     if !s.has_number(cells, 0) {
-        return s.stopped(frame::BROKEN);
+        return s.stopped(stops::BROKEN);
     }
     let r = below(found(s, cells, (b % 256) as u8), s.entries);
     frame::operations::settle(s, cells, 1, state::NUMBER, r)

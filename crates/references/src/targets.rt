@@ -10,6 +10,7 @@ use state::Operand;
 use state::Reference;
 use state::frames::State;
 use state::rooms;
+use state::stops;
 
 // Where a reference leads: to a number in a cell, to the record with this serial number in a room, to nothing now, or to what no reference leads to.
 pub enum Target {
@@ -120,9 +121,9 @@ pub fn read_ref(s: State, cells: &mut [u64]) -> State
             let n = state::number_at(cells, o as usize);
             frame::operations::settle(s, cells, 1, state::NUMBER, n)
         }
-        Target::Record(_, _) => s.stopped(frame::BROKEN),
-        Target::Stale => s.stopped(35),
-        Target::Impossible => s.stopped(frame::BROKEN),
+        Target::Record(_, _) => s.stopped(stops::BROKEN),
+        Target::Stale => s.stopped(stops::STALE_REFERENCE),
+        Target::Impossible => s.stopped(stops::BROKEN),
     }
 }
 
@@ -135,9 +136,9 @@ fn write_at(s: State, cells: &mut [u64], x: Target, n: u64) -> State
             state::put(cells, o as usize, state::NUMBER, n);
             s.drop_top(2).next()
         }
-        Target::Record(_, _) => s.stopped(frame::BROKEN),
-        Target::Stale => s.stopped(35),
-        Target::Impossible => s.stopped(frame::BROKEN),
+        Target::Record(_, _) => s.stopped(stops::BROKEN),
+        Target::Stale => s.stopped(stops::STALE_REFERENCE),
+        Target::Impossible => s.stopped(stops::BROKEN),
     }
 }
 
@@ -146,7 +147,7 @@ pub fn write_ref(s: State, cells: &mut [u64]) -> State
     ensures { λ r. ⌜ after r (cellsOf (now (cells .exit))) ≡ writeOf (cellsOf (now (cells .entry))) s ⌝ }
 {
     if !s.has_number(cells, 1) {
-        return s.stopped(frame::BROKEN);
+        return s.stopped(stops::BROKEN);
     }
     write_at(s, cells, target_top(s, cells), s.number(cells, 1))
 }
@@ -164,7 +165,7 @@ fn borrow_held(s: State, cells: &mut [u64], c: u32, m: u8, y: u8, j: u8) -> Stat
         let w = state::record_at(cells, o);
         return frame::operations::settle(s, cells, 1, state::TO_RECORD, w);
     }
-    s.stopped(frame::BROKEN)
+    s.stopped(stops::BROKEN)
 }
 
 // BorrowFld.
@@ -173,9 +174,9 @@ pub fn borrow_field(s: State, cells: &mut [u64], b: u16) -> State
 {
     let x = target_top(s, cells);
     match x {
-        Target::Number(_) => s.stopped(frame::BROKEN),
+        Target::Number(_) => s.stopped(stops::BROKEN),
         Target::Record(c, m) => borrow_held(s, cells, c, m, (b / 8 % 256) as u8, (b % 8) as u8),
-        Target::Stale => s.stopped(35),
-        Target::Impossible => s.stopped(frame::BROKEN),
+        Target::Stale => s.stopped(stops::STALE_REFERENCE),
+        Target::Impossible => s.stopped(stops::BROKEN),
     }
 }

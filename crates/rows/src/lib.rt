@@ -1,7 +1,7 @@
 // The length pass and the rows pass: refusals 1 to 4.
 ghost use mathlib.Core.Path.{_≡_};
-ghost use mathlib.Core.Bool.{not, _&&_};
-ghost use lib.Dec.{eqb, leb, ltb};
+ghost use mathlib.Core.Bool.{_&&_};
+ghost use lib.Dec.{leb};
 ghost use Prim.Native.Nat.{_<_};
 ghost use Rattle.table.specs.Format.{localKind, instructionKind, pastSorts, pastOpcodes};
 ghost use Rattle.rows.specs.Rows.{lengthOf, rowsOf, formOf, countOf, belowRow, misplaced, tooMany, usesA, usesB, usesC, usesD, dirty, badC, lateParameter, badOp, unusedByte, badValue, badGuard, rowFault, useOf, usedWith};

@@ -1,19 +1,19 @@
 -- A call of a list by the interpreter's account is one of the machine on lists.
 use Prim.Native.Nat.{ℕ, zero, suc, _+_, _-_, _*_, _<_, _≤_, _^_}
 use mathlib.Core.Path.{_≡_, refl, sym, ap, subst, _∙_}
-use mathlib.Core.Bool.{Bool, true, false, cond}
-use mathlib.Core.Logic.{_⊎_, inl, inr}
+use mathlib.Core.Bool.{Bool, true, false}
+use mathlib.Core.Logic.{inr}
 use mathlib.Core.List.{List, [], _∷_, _++_, map}
-use mathlib.Core.Option.{Option, none}
+use mathlib.Core.Option.{none}
 use native.Mathlib.Decide.{decLt}
 use native.Mathlib.Omega.{arith}
 use borrow.Author.Tests.{lt-ltb, le-leb, eq-eqb, ne-eqb}
-use lib.ListN.{length, getD, take, replicate, length-append, length-map, List·getD-eq-default}
+use lib.ListN.{length, getD, take, replicate, length-append}
 use Rattle.table.specs.Index.{indexOf}
 use Rattle.declarations.specs.Program.{kindsOf, procedureIn, localCount, parametersEnd, parameterKinds}
 use Rattle.acceptance.specs.Judged.{Judged}
-use Rattle.semantics.specs.Machine.{num, state, finished, stopped}
-use Rattle.semantics.specs.Calls.{Call, call}
+use Rattle.semantics.specs.Machine.{num, state, finished}
+use Rattle.semantics.specs.Calls.{call}
 use Rattle.semantics.specs.Callable.{Callable}
 use Rattle.semantics.specs.Text.{callLine}
 use Rattle.state.specs.declared.Operand.{Operand}
@@ -23,22 +23,22 @@ use Rattle.state.specs.Coding.{numberOf, isRecord, secondOf}
 use Rattle.state.specs.Cells.{emptied}
 use Rattle.state.specs.Layout.{roomCell, allCells}
 use Rattle.state.specs.Frames.{nextSerial}
-use Rattle.machine.specs.Machine.{mframe, MRoom, MState, mstate, mnext, mfinished, mstopped, mbroken, topmost}
+use Rattle.machine.specs.Machine.{MState, mstate, mnext, mfinished, mstopped, mbroken}
 use Rattle.machine.specs.Runs.{MEnd, mend, mrow, mgo}
-use Rattle.machine.specs.Lists.{MBase, mbase, mafter, numbersOf, mbegin, mline}
-use Rattle.machine.specs.Views.{Same, upFrom, operandsIn, belowIn, roomBy, roomIn, roomsIn, entriesIn, viewOf}
+use Rattle.machine.specs.Lists.{mafter, numbersOf, mbegin, mline}
+use Rattle.machine.specs.Views.{Same, upFrom, belowIn, roomBy, roomIn, roomsIn, entriesIn, viewOf}
 use Rattle.machine.proofs.Lists.{Between, between-begins}
 use Rattle.machine.proofs.Views.{tab-same, up-same, room-same, entries-same, up-append, up-empty, topmost-down, length-emptied, emptied-other, emptied-there}
 use Rattle.frame.specs.Turning.{Turning, after, done, broken}
 use Rattle.frame.specs.Control.{within}
 use Rattle.frame.specs.Meaning.{Tidy}
 use Rattle.interpreter.specs.Run.{runFrom}
-use Rattle.interpreter.specs.Calls.{keptOf, freed, filled, begun, begunIn, restored, restoredIn, restoredTo, callTurn}
+use Rattle.interpreter.specs.Calls.{keptOf, begun, begunIn, restored, restoredIn, restoredTo, callTurn}
 use Rattle.interpreter.proofs.Live.{Live, Numbers}
 use Rattle.interpreter.proofs.Frames.{live-stands}
 use Rattle.interpreter.proofs.Keeping.{length-kept-of, entries-kept, rooms-kept, past-kept, length-freed, freed-other, freed-there, length-filled, filled-other, up-filled}
 use Rattle.interpreter.proofs.Follows.{baseIn, Going, Results, After, Ends, run-follows}
-use Rattle.running.specs.Lists.{resultsIn, endLine, lineOf}
+use Rattle.running.specs.Lists.{endLine, lineOf}
 
 -- what lasts from call to call lies within its cells
 pub record Lasting (cs : List Operand) (s : State) : Type 0 where

@@ -4,7 +4,7 @@ use mathlib.Core.Path.{_≡_, refl, sym, ap, subst, _∙_}
 use mathlib.Core.List.{List, [], _∷_, _++_, append-assoc}
 use mathlib.Core.Option.{Option, none}
 use native.Mathlib.Omega.{arith}
-use lib.ListN.{length, getD, replicate, length-replicate, getD-replicate}
+use lib.ListN.{length, getD, replicate, length-replicate}
 use Rattle.table.specs.Index.{indexOf}
 use Rattle.table.specs.declared.Verdict.the-variants.{Accepted}
 use Rattle.judging.specs.Judging.{judgeOf}
@@ -15,27 +15,25 @@ use Rattle.semantics.specs.Calls.{Call, call, listOf, callsOf}
 use Rattle.semantics.specs.Text.{textOf}
 use Rattle.semantics.specs.Run.{historyOf}
 use Rattle.semantics.specs.Callable.{GoodCall}
-use Rattle.semantics.specs.Claim.{All, none-left, also}
+use Rattle.semantics.specs.Claim.{All, also}
 use Rattle.semantics.proofs.Callable.{list-rows, good-calls}
 use Rattle.semantics.proofs.Ends.{calls-in-rows}
 use Rattle.state.specs.declared.Operand.{Operand}
 use Rattle.state.specs.declared.Operand.the-variants.{Empty}
 use Rattle.state.specs.declared.frames.State.{State}
-use Rattle.state.specs.Coding.{isRecord}
 use Rattle.state.specs.Layout.{roomCell, allCells}
 use Rattle.machine.specs.Machine.{MRoom}
 use Rattle.machine.specs.Runs.{MEnd, mgo}
 use Rattle.machine.specs.Lists.{mnothing, mafter, mbegin, mline, mlines, mlast, mstoreLines, mtext}
-use Rattle.machine.specs.Views.{tab, roomIn, roomsIn, entriesIn, viewOf}
+use Rattle.machine.specs.Views.{tab, roomIn, entriesIn}
 use Rattle.machine.proofs.Lists.{Between, between-nothing, between-after, text-same}
 use Rattle.machine.proofs.Views.{tab-same}
 use Rattle.frame.specs.Turning.{Turning, after}
-use Rattle.interpreter.specs.Run.{runFrom}
-use Rattle.interpreter.specs.Calls.{keptOf, begun, begunIn, restoredTo, callTurn}
+use Rattle.interpreter.specs.Calls.{keptOf, callTurn}
 use Rattle.interpreter.proofs.Keeping.{length-kept-of}
-use Rattle.interpreter.proofs.Follows.{baseIn, run-follows}
+use Rattle.interpreter.proofs.Follows.{baseIn}
 use Rattle.running.specs.Lists.{start, allEmpty, onTurn, storeText, lineOf, textFrom, textIn}
-use Rattle.running.proofs.Calls.{Lasting, Ending, Ended, call-follows}
+use Rattle.running.proofs.Calls.{Lasting, Ended, call-follows}
 
 -- counts that leave room for so many more calls
 abbrev Spare : ℕ → State → Type 0

@@ -1,9 +1,9 @@
 -- Each refusal decides the run; where nothing is refused the text stands at the buffer's start.
 use Prim.Native.Nat.{ℕ, _+_, _<_, _≤_}
-use mathlib.Core.Path.{_≡_, refl, sym, ap, _∙_}
-use mathlib.Core.List.{List, [], _∷_, _++_}
+use mathlib.Core.Path.{_≡_, refl, _∙_}
+use mathlib.Core.List.{List, [], _∷_}
 use native.Mathlib.Omega.{arith}
-use lib.ListN.{length, drop}
+use lib.ListN.{length}
 use borrow.Author.Tests.{lt-ltb, le-ltb}
 use Rattle.table.specs.declared.Verdict.{Verdict}
 use Rattle.table.specs.declared.Verdict.the-variants.{Accepted, Refused}
@@ -14,10 +14,9 @@ use Rattle.acceptance.specs.Judged.{Bytes}
 use Rattle.semantics.specs.Machine.{Entry}
 use Rattle.semantics.specs.Calls.{listOf}
 use Rattle.semantics.specs.Text.{textOf}
-use Rattle.semantics.specs.Run.{minText, bufferOf, historyOf, answerWith, bufferWith, Ran, runOf}
+use Rattle.semantics.specs.Run.{minText, bufferOf, historyOf, answerWith, runOf}
 use Rattle.semantics.specs.Lengths.{Rearranged, none-at-all, same-first}
 use Rattle.semantics.proofs.Lengths.{text-fits}
-use Rattle.text.specs.Placing.{placed}
 use Rattle.text.proofs.Placing.{Puts, placed-fits}
 use Rattle.running.specs.Lists.{textIn}
 use Rattle.running.proofs.Follows.{text-is}

@@ -7,6 +7,7 @@ ghost use Rattle.text.specs.Placing.{placed};
 ghost use Rattle.state.specs.Cells.{cellsOf};
 ghost use Rattle.running.specs.Lists.{resultsIn, endLine, lineOf, textIn};
 use state::frames::State;
+use state::stops;
 use table::Verdict;
 use table::format;
 use table::index::Index;
@@ -45,10 +46,10 @@ fn put_end(
 ) -> usize
     ensures { λ r. ⌜ (now (text .exit) ≡ (placed (now (text .entry)) at (endLine call stop row results count)) .buffer) × (r ≡ (placed (now (text .entry)) at (endLine call stop row results count)) .end) ⌝ }
 {
-    if stop == frame::DONE {
+    if stop == stops::DONE {
         return text::put_done(text, at, call, results, count);
     }
-    if stop == frame::BROKEN {
+    if stop == stops::BROKEN {
         return at;
     }
     text::put_stop(text, at, call, stop, row)

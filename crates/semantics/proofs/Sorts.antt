@@ -28,7 +28,3 @@ reference-loose y = ne-eqb (recordRef y % 4) 1 (λ (e : recordRef y % 4 ≡ 1). 
 pub to-reference : (c : ℕ) → isReference c ≡ false → isReference (referenceTo c) ≡ true
 unfolding isReference
 to-reference c e = le-leb 2 (referenceTo c % 4) (omega (arith, leb-false 2 (c % 4) e))
-
-pub to-loose : (c : ℕ) → isReference c ≡ false → isRecord (referenceTo c) ≡ false
-unfolding isReference isRecord
-to-loose c e = ne-eqb (referenceTo c % 4) 1 (λ (q : referenceTo c % 4 ≡ 1). omega (arith, leb-false 2 (c % 4) e))

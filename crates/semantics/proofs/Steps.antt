@@ -1,11 +1,13 @@
 -- A step of an accepted table: what comes up has its operands, is not stuck, and keeps what holds.
-use Prim.Native.Nat.{ℕ, zero, suc, _≤_}
+use Prim.Native.Nat.{ℕ, zero, suc, _<_}
 use mathlib.Core.Path.{_≡_, refl, ap, sym, _∙_}
 use mathlib.Core.List.{List, [], _∷_, map}
 use mathlib.Core.Bool.{Bool, true}
 use mathlib.Core.Option.{Option}
 use native.Mathlib.Omega.{arith}
 use lib.ListN.{length}
+use Rattle.table.specs.Format.{pastOpcodes}
+use Rattle.laws.proofs.Cases.{_▸_, below-each}
 use Rattle.table.specs.Index.{indexOf}
 use Rattle.declarations.specs.Program.{procedureIn, instructionIn}
 use Rattle.effects.specs.Kinds.{good}
@@ -28,28 +30,11 @@ use Rattle.semantics.proofs.Cases.{Case, ok-pop, ok-load, ok-mv, ok-cp,
 
 -- all opcodes
 by-opcode : {t : List ℕ} {T W : List ℕ} {id p i : ℕ} {ops vs under : List Value} {ls : List (Option Value)} {fs : List Frame} {h : List Cell} {st : List Entry} {n : ℕ}
-    (R : Running t T W id p i ops vs under ls fs h st n) (a : ℕ) → a ≤ 19 → Case R a
-by-opcode R zero l = ok-pop R
-by-opcode R (suc zero) l = ok-load R
-by-opcode R (suc (suc zero)) l = ok-mv R
-by-opcode R (suc (suc (suc zero))) l = ok-cp R
-by-opcode R (suc (suc (suc (suc zero)))) l = ok-st R
-by-opcode R (suc (suc (suc (suc (suc zero))))) l = ok-borrow R
-by-opcode R (suc (suc (suc (suc (suc (suc zero)))))) l = ok-read R
-by-opcode R (suc (suc (suc (suc (suc (suc (suc zero))))))) l = ok-write R
-by-opcode R (suc (suc (suc (suc (suc (suc (suc (suc zero)))))))) l = ok-field R
-by-opcode R (suc (suc (suc (suc (suc (suc (suc (suc (suc zero))))))))) l = ok-pack R
-by-opcode R (suc (suc (suc (suc (suc (suc (suc (suc (suc (suc zero)))))))))) l = ok-unpack R
-by-opcode R (suc (suc (suc (suc (suc (suc (suc (suc (suc (suc (suc zero))))))))))) l = ok-to R
-by-opcode R (suc (suc (suc (suc (suc (suc (suc (suc (suc (suc (suc (suc zero)))))))))))) l = ok-from R
-by-opcode R (suc (suc (suc (suc (suc (suc (suc (suc (suc (suc (suc (suc (suc zero))))))))))))) l = ok-global R
-by-opcode R (suc (suc (suc (suc (suc (suc (suc (suc (suc (suc (suc (suc (suc (suc zero)))))))))))))) l = ok-exists R
-by-opcode R (suc (suc (suc (suc (suc (suc (suc (suc (suc (suc (suc (suc (suc (suc (suc zero))))))))))))))) l = ok-call R
-by-opcode R (suc (suc (suc (suc (suc (suc (suc (suc (suc (suc (suc (suc (suc (suc (suc (suc zero)))))))))))))))) l = ok-ret R
-by-opcode R (suc (suc (suc (suc (suc (suc (suc (suc (suc (suc (suc (suc (suc (suc (suc (suc (suc zero))))))))))))))))) l = ok-branch R
-by-opcode R (suc (suc (suc (suc (suc (suc (suc (suc (suc (suc (suc (suc (suc (suc (suc (suc (suc (suc zero)))))))))))))))))) l = ok-cond R
-by-opcode R (suc (suc (suc (suc (suc (suc (suc (suc (suc (suc (suc (suc (suc (suc (suc (suc (suc (suc (suc zero))))))))))))))))))) l = ok-op R
-by-opcode R (suc (suc (suc (suc (suc (suc (suc (suc (suc (suc (suc (suc (suc (suc (suc (suc (suc (suc (suc (suc a)))))))))))))))))))) l = absurd (omega arith)
+    (R : Running t T W id p i ops vs under ls fs h st n) (a : ℕ) → a < pastOpcodes → Case R a
+by-opcode R =
+    below-each (Case R) pastOpcodes
+    (ok-pop R ▸ ok-load R ▸ ok-mv R ▸ ok-cp R ▸ ok-st R ▸ ok-borrow R ▸ ok-read R ▸ ok-write R ▸ ok-field R ▸ ok-pack R ▸ ok-unpack R
+    ▸ ok-to R ▸ ok-from R ▸ ok-global R ▸ ok-exists R ▸ ok-call R ▸ ok-ret R ▸ ok-branch R ▸ ok-cond R ▸ ok-op R ▸ tt)
 
 no-gap : (G O : List Bool) → length G ≡ 0 → marksOn G O ≡ O
 unfolding marksOn

@@ -1,5 +1,5 @@
 -- The numbers of a packed word are read back.
-use Prim.Native.Nat.{ℕ, zero, suc, _/_, _%_, _<_, _≤_}
+use Prim.Native.Nat.{ℕ, _/_, _%_, _<_}
 use mathlib.Core.Path.{_≡_}
 use native.Mathlib.Omega.{arith}
 use Rattle.state.specs.declared.Reference.the-variants.{Local, Field, Record as Whole}

@@ -10,6 +10,7 @@ ghost use Rattle.state.specs.declared.Reference.the-variants.{Local, Fie
 pub mod entries;
 pub mod frames;
 pub mod rooms;
+pub mod stops;
 
 // A reference to a local: its frame's serial number and depth, the local and its kind; to a number field: its record's serial number, room and
 // type, and the field; to a record: its serial number, room and type.

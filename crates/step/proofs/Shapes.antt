@@ -1,35 +1,33 @@
 -- An instruction ends the call and leaves all as it was, or the call runs on within its bounds.
-use Prim.Native.Nat.{ℕ, zero, suc, _+_, _-_, _/_, _%_, _<_, _≤_}
+use Prim.Native.Nat.{ℕ, _+_, _-_, _/_, _%_, _<_, _≤_}
 use mathlib.Core.Path.{_≡_, refl}
 use mathlib.Core.Bool.{Bool, true, false, cond}
-use mathlib.Core.List.{List, [], _∷_}
+use mathlib.Core.List.{List, []}
 use native.Mathlib.Decide.{decLt}
 use native.Mathlib.Omega.{arith}
 use borrow.Author.Tests.{eqb-true, lt-ltb, le-leb, lt-leb}
 use lib.Dec.{eqb, ltb, leb}
-use lib.ListN.{length, getD}
-use Rattle.laws.proofs.Cases.{_▸_, Each, each}
+use lib.ListN.{getD}
+use Rattle.laws.proofs.Cases.{_▸_, each}
 use Rattle.arithmetic.specs.declared.Calculated.{Calculated}
 use Rattle.arithmetic.specs.declared.Calculated.the-variants.{Value, OutOfRange, Unknown}
 use Rattle.semantics.specs.Limits.{outOfRange, staleReference, keyTaken, noSuchKey, tooManyFrames, tooManyRecords, tooManyEntries}
 use Rattle.state.specs.Entries.{addedIn}
-use Rattle.state.specs.declared.Reference.{Reference}
 use Rattle.state.specs.declared.Operand.{Operand}
 use Rattle.state.specs.declared.Operand.the-variants.{Empty, Number, Record, Refer}
 use Rattle.state.specs.declared.frames.State.{State}
 use Rattle.state.specs.Layout.{roomCell}
-use Rattle.state.specs.Coding.{isNumber, numberOf, secondOf}
-use Rattle.state.specs.Frames.{pushed, dropped, goneTo, goneOn, stoppedWith, topAt, resumed, resumedAt, received, entered, enteredIn, suspendedIn}
+use Rattle.state.specs.Coding.{isNumber, numberOf}
+use Rattle.state.specs.Frames.{pushed, dropped, goneTo, goneOn, stoppedWith, topAt, resumed, resumedAt, entered}
 use Rattle.state.specs.Rooms.{isLive, fieldCell, firstFree}
 use Rattle.references.specs.declared.targets.Target.{Target}
 use Rattle.references.specs.declared.targets.Target.the-variants.{Number as ToNumber, Record as ToRecord, Stale, Impossible}
 use Rattle.frame.specs.Turning.{Turning, after, done, broken, ends}
-use Rattle.frame.specs.Operations.{closed, operated, opOf}
-use Rattle.frame.specs.Stack.{poppedBy}
-use Rattle.references.specs.Targets.{targetTop, readAt, readOf, writtenAt, writeOf, borrowedAs, borrowedIn, borrowFieldOf}
-use Rattle.records.specs.Packing.{packOf, packedState, packedIn, unpackOf, unpackedTop, unpackedFrom, unpackedAt}
-use Rattle.records.specs.Published.{withEntries, found, publishedAs, movedTo, moveToOf, takenOut, moveFromOf, globalAt, globalOf, existsOf}
-use Rattle.frame.specs.Control.{within, calledIn, callOf, returnedTo, retOf, branchedBy, branchOf}
+use Rattle.frame.specs.Operations.{closed, operated}
+use Rattle.references.specs.Targets.{targetTop, readAt, writtenAt, borrowedAs, borrowedIn}
+use Rattle.records.specs.Packing.{packedState, packedIn, unpackedTop}
+use Rattle.records.specs.Published.{withEntries, found, publishedAs, movedTo, takenOut}
+use Rattle.frame.specs.Control.{within, calledIn, returnedTo, retOf, branchedBy}
 use Rattle.step.specs.Step.{turns}
 
 pub record Bounded (s s′ : State) : Type 0 where

@@ -4,6 +4,7 @@ ghost use Rattle.state.specs.Cells.{cellsOf};
 ghost use Rattle.frame.specs.Turning.{after};
 ghost use Rattle.step.specs.Step.{turnOf};
 use state::frames::State;
+use state::stops;
 use table::Row;
 use table::format;
 use table::index::ProcedureEntry;
@@ -44,6 +45,6 @@ pub fn step(
         format::BRANCH => s.go_to(b),
         format::BRANCH_COND => frame::control::branch_cond(s, cells, b),
         format::OP => frame::operations::op(s, cells, b),
-        format::PAST_OPCODES..=255 => s.stopped(frame::BROKEN),
+        format::PAST_OPCODES..=255 => s.stopped(stops::BROKEN),
     }
 }

@@ -10,7 +10,7 @@ use Rattle.table.specs.declared.index.TypeEntry.{TypeEntry}
 use Rattle.table.specs.declared.index.ProcedureEntry.{ProcedureEntry}
 use Rattle.table.specs.Rows.{rowAt, rowCount}
 use Rattle.declarations.specs.Program.{number, procedureIn, codeOf, parameterCount}
-use Rattle.effects.specs.Effects.{Effect, effectOf}
+use Rattle.effects.specs.Effects.{effectOf}
 use Rattle.operands.specs.Operands.{namedType}
 use Rattle.flow.specs.Steps.{Step, nexts}
 use Rattle.flow.specs.Places.{markNodes}

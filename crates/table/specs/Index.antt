@@ -1,7 +1,7 @@
 -- An index of a table: where each module, type and procedure stands. Rows, types and procedures are numbered from 0 in table order.
 -- It is defined for any bytes; what document 01 says of its parts holds of tables that the rows pass accepts.
-use Prim.Native.Nat.{ℕ, pred, _+_, _-_, min}
-use mathlib.Core.Bool.{Bool, not}
+use Prim.Native.Nat.{ℕ, _+_, _-_, min}
+use mathlib.Core.Bool.{not}
 use mathlib.Core.List.{List}
 use Rattle.laws.specs.Lists.{find, count, entries}
 use Rattle.table.specs.declared.index.TypeEntry.{TypeEntry}

@@ -3,7 +3,7 @@ use Prim.Native.Nat.{_-_, _≤_}
 use mathlib.Core.Path.{_≡_, refl, sym, _∙_}
 use native.Mathlib.Omega.{arith}
 use borrow.Author.Needs.{needs}
-use borrow.Author.Tests.{not-true, not-false}
+use borrow.Author.Tests.{not-false}
 use lib.ListN.{length, length-map}
 use Rattle.declarations.specs.Program.{codeOf, procedureIn}
 use Rattle.declarations.proofs.Laws.{passFrom, pass-on, passes-at, passes-entry}

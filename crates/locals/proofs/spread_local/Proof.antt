@@ -1,13 +1,12 @@
 -- The invariant: the search from the status at the start follows local l at instruction i with status x.
 use Prim.Native.Nat.{ℕ, _+_, _-_, _*_, _<_, _≤_}
 use mathlib.Core.Path.{_≡_, refl, sym, ap, _∙_}
-use mathlib.Core.Bool.{Bool, true, false, cond}
+use mathlib.Core.Bool.{false}
 use mathlib.Core.List.{[], _∷_, List·Memᴰ·eq-of-singleton}
 use native.Mathlib.Omega.{arith}
 use borrow.Author.Needs.{needs}
-use lib.ListN.{length, getD, replicate}
+use lib.ListN.{length, replicate}
 use Rattle.reach.specs.Reach.{countTrue}
-use Rattle.reach.specs.Search.{Searched}
 use Rattle.reach.proofs.Laws.{count-le}
 use Rattle.table.specs.Rows.{rowCount}
 use Rattle.flow.specs.Places.{statusAfter}

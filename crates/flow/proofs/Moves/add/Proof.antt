@@ -1,6 +1,5 @@
 use Rattle.flow.proofs.Laws.{add-room, add-full}
 use borrow.Author.Needs.{needs}
-use native.Mathlib.Omega.{arith}
 use Rattle.flow.proofs.Moves.add.Statement.{statement}
 use Rattle.flow.proofs.Moves.add.Tie as tie
 

@@ -1,5 +1,4 @@
 use borrow.Author.Needs.{needs}
-use native.Mathlib.Omega.{arith}
 use Rattle.records.proofs.packing.pack_in.Statement.{statement}
 use Rattle.records.proofs.packing.pack_in.Tie as tie
 
