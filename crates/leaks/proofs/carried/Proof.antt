@@ -7,9 +7,6 @@ use Rattle.flow.specs.Moves.{placesOf, added}
 use Rattle.leaks.proofs.carried.Statement.{statement}
 use Rattle.leaks.proofs.carried.Tie as tie
 
-add-requires : tie.Need-add-requires
-add-requires c κs = search needs
-
 returns : tie.Need-returns
 unfolding placesOf added
 returns c = rw (c .before .if1 .taken) (c .add .ensures)
@@ -19,4 +16,4 @@ unfolding placesOf
 returns-2 c = sym (ap (λ (b : Bool). cond {A = List ℕ} b (17 ∷ []) []) (c .if1 .left))
 
 pub carried-spec : {M : Type 1} → statement M
-carried-spec = tie.close (tie.spec add-requires returns returns-2)
+carried-spec = tie.close (tie.spec (λ c κs. search needs) returns returns-2)

@@ -5,12 +5,6 @@ use Rattle.leaks.specs.Leaks.{leakIn}
 use Rattle.leaks.proofs.fault_at.Statement.{statement}
 use Rattle.leaks.proofs.fault_at.Tie as tie
 
-cast-some-marked : tie.Need-cast-some-marked
-cast-some-marked c = search needs
-
-some-marked-requires : tie.Need-some-marked-requires
-some-marked-requires c κs = search needs
-
 returns : tie.Need-returns
 unfolding leakIn viewStep
 returns c = rw (c .before .before .before .if1 .taken, ← c .before .some-marked .ensures, c .if2 .taken)
@@ -18,12 +12,6 @@ returns c = rw (c .before .before .before .if1 .taken, ← c .before .some-marke
 returns-2 : tie.Need-returns-2
 unfolding leakIn viewStep
 returns-2 c = rw (c .before .before .before .if1 .taken, ← c .before .some-marked .ensures, c .if2 .left)
-
-cast-some-marked-2 : tie.Need-cast-some-marked-2
-cast-some-marked-2 c = search needs
-
-some-marked-requires-2 : tie.Need-some-marked-requires-2
-some-marked-requires-2 c κs = search needs
 
 returns-3 : tie.Need-returns-3
 unfolding leakIn viewStep
@@ -38,15 +26,4 @@ unfolding leakIn viewStep
 returns-5 c = rw (ne-eqb _ _ (c .before .before .if1 .left), ne-eqb _ _ (c .if3 .left))
 
 pub fault-at-spec : {M : Type 1} → statement M
-fault-at-spec =
-    tie.close
-    (tie.spec
-    cast-some-marked
-    some-marked-requires
-    returns
-    returns-2
-    cast-some-marked-2
-    some-marked-requires-2
-    returns-3
-    returns-4
-    returns-5)
+fault-at-spec = tie.close (tie.spec (λ c. search needs) (λ c κs. search needs) returns returns-2 (λ c. search needs) (λ c κs. search needs) returns-3 returns-4 returns-5)

@@ -23,31 +23,10 @@ loop-holds : tie.Need-loop-holds Inv-loop μ-loop
 unfolding codeVerdict
 loop-holds c = (omega arith, whole Accepted (λ (number j : ℕ). Refused number (_ + j)) _ _)
 
-mul-shape : tie.Need-mul-shape Inv-loop μ-loop
-mul-shape c = omega arith
-
-element-copy-out-shape : tie.Need-element-copy-out-shape Inv-loop μ-loop
-element-copy-out-shape c = omega arith
-
-fault-at-requires : tie.Need-fault-at-requires Inv-loop μ-loop
-fault-at-requires c κs = omega arith
-
-cast-t14 : tie.Need-cast-t14 Inv-loop μ-loop
-cast-t14 c = search needs
-
-add-t15 : tie.Need-add-t15 Inv-loop μ-loop
-add-t15 c = omega arith
-
 returns : tie.Need-returns Inv-loop μ-loop
 returns c =
     let z = fault-is (c .before .before .before .before .before .before .before .args .nodes .now) (c .before .before .before .before .before .before .before .args .t2) _ (c .before .before .before .before .before .loop .i) refl (c .before .before .fault-at .ensures) in
     sym (c .before .before .before .before .before .loop .inv .1 ∙ faulty Accepted (λ (number j : ℕ). Refused number (_ + j)) _ _ _ (omega arith) (λ q. c .before .if1 .taken (sym z ∙ q)) ∙ ap (λ (x : ℕ). Refused x (c .before .before .before .before .before .before .before .args .own .code + c .before .before .before .before .before .loop .i)) z)
-
-add-i : tie.Need-add-i Inv-loop μ-loop
-add-i c = omega arith
-
-loop-less : tie.Need-loop-less Inv-loop μ-loop
-loop-less c = omega arith
 
 loop-again : tie.Need-loop-again Inv-loop μ-loop
 loop-again c = (
@@ -61,19 +40,4 @@ returns-2 c =
     sym (c .before .loop .inv .1 ∙ rw e (done Accepted (λ (number j : ℕ). Refused number (_ + j)) _ _))
 
 pub judge-code-spec : {M : Type 1} → statement M
-judge-code-spec =
-    tie.close
-    (tie.spec
-    Inv-loop
-    μ-loop
-    loop-holds
-    mul-shape
-    element-copy-out-shape
-    fault-at-requires
-    cast-t14
-    add-t15
-    returns
-    add-i
-    loop-less
-    loop-again
-    returns-2)
+judge-code-spec = tie.close (tie.spec Inv-loop μ-loop loop-holds (λ c. omega arith) (λ c. omega arith) (λ c κs. omega arith) (λ c. search needs) (λ c. omega arith) returns (λ c. omega arith) (λ c. omega arith) loop-again returns-2)

@@ -16,9 +16,6 @@ use Rattle.leaks.proofs.Unmarked.{quiet-verdict, unmarked-verdict}
 use Rattle.leaks.proofs.judge_procedure.Statement.{statement}
 use Rattle.leaks.proofs.judge_procedure.Tie as tie
 
-over-limits-requires : tie.Need-over-limits-requires
-over-limits-requires c κs = search needs
-
 returns : tie.Need-returns
 returns c = λ q. sym (rw (c .before .before .before .before .before .before .pre .0) (limited-out _ _ _ (sym (c .before .over-limits .ensures) ∙ c .if1 .taken)))
 
@@ -53,12 +50,6 @@ returns-4 c = λ q.
     let k = c .before .before .before .before .before in
     rw (limited-in _ (start k .args .own) _ (in-limits k))
     (unmarked-verdict (start k .args .table .now) (start k .args .code .now) (start k .args .index) q (start k .args .own) (start k .pre .0) (omega arith) _ (c .before .before .shapes-of .ensures) (sym (c .before .no-marks-made .ensures) ∙ c .if4 .taken))
-
-parameters-of-requires : tie.Need-parameters-of-requires
-parameters-of-requires c κs = search needs
-
-cast-params : tie.Need-cast-params
-cast-params c = search needs
 
 -- what is known before the search, and the number of places
 abbrev known : tie.After-parameters-of → tie.Else2
@@ -103,12 +94,6 @@ slice-aggregate-judge-code c = let s = c .before .before .before .before .before
 judge-code-requires : tie.Need-judge-code-requires
 judge-code-requires c κs = omega (arith, limits (known (searched (c .before .before .before .before .before))))
 
-same-length : tie.Need-same-length
-same-length c = search needs
-
-same-length-2 : tie.Need-same-length-2
-same-length-2 c = search needs
-
 abbrev spread : tie.After-judge-code → tie.After-spread-marks
 spread c = c .before .before .before .before .before .before
 
@@ -121,26 +106,4 @@ returns-5 c = λ q.
     (procedure-verdict (start (tested c) .args .table .now) (start (tested c) .args .code .now) (start (tested c) .args .index) q (start (tested c) .args .own) _ _ _ _ (start (tested c) .pre .0) (searched (spread c) .parameters-of .ensures) (searched (spread c) .before .before .before .shapes-of .ensures) (filled (spread c) ∙ spread c .spread-marks .ensures) (c .judge-code .ensures))
 
 pub judge-procedure-spec : {M : Type 1} → statement M
-judge-procedure-spec =
-    tie.close
-    (tie.spec
-    over-limits-requires
-    returns
-    returns-2
-    (λ c κs. search needs)
-    returns-3
-    shapes-of-requires
-    no-marks-made-requires
-    returns-4
-    parameters-of-requires
-    cast-params
-    mul-end
-    slice-relend-prefix-spread-marks
-    slice-aggregate-spread-marks
-    spread-marks-requires
-    slice-reshare-prefix-judge-code
-    slice-aggregate-judge-code
-    judge-code-requires
-    same-length
-    same-length-2
-    returns-5)
+judge-procedure-spec = tie.close (tie.spec (λ c κs. search needs) returns returns-2 (λ c κs. search needs) returns-3 shapes-of-requires no-marks-made-requires returns-4 (λ c κs. search needs) (λ c. search needs) mul-end slice-relend-prefix-spread-marks slice-aggregate-spread-marks spread-marks-requires slice-reshare-prefix-judge-code slice-aggregate-judge-code judge-code-requires (λ c. search needs) (λ c. search needs) returns-5)

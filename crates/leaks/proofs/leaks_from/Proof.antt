@@ -44,39 +44,6 @@ trusted-is c =
 returns : tie.Need-returns Inv-loop μ-loop
 returns c = sym (c .before .before .loop .inv .1 ∙ pass-end _ _ _ _ (passes-past (c .before .before .before .before .args .t2) (room (c .before .before)) _ (c .if1 .taken)))
 
-mul-own : tie.Need-mul-own Inv-loop μ-loop
-mul-own c = omega arith
-
-element-copy-out-own : tie.Need-element-copy-out-own Inv-loop μ-loop
-element-copy-out-own c = omega arith
-
-cast-owner : tie.Need-cast-owner Inv-loop μ-loop
-cast-owner c = search needs
-
-mul-module-row : tie.Need-mul-module-row Inv-loop μ-loop
-mul-module-row c = omega arith
-
-element-copy-out-module-row : tie.Need-element-copy-out-module-row Inv-loop μ-loop
-element-copy-out-module-row c = omega arith
-
-is-trusted-requires : tie.Need-is-trusted-requires Inv-loop μ-loop
-is-trusted-requires c κs = search needs
-
-cast-part : tie.Need-cast-part Inv-loop μ-loop
-cast-part c = search needs
-
-cast-part-2 : tie.Need-cast-part-2 Inv-loop μ-loop
-cast-part-2 c = search needs
-
-part-requires : tie.Need-part-requires Inv-loop μ-loop
-part-requires c κs = search needs
-
-slice-aggregate-judge-procedure : tie.Need-slice-aggregate-judge-procedure Inv-loop μ-loop
-slice-aggregate-judge-procedure c = search needs
-
-slice-aggregate-judge-procedure-2 : tie.Need-slice-aggregate-judge-procedure-2 Inv-loop μ-loop
-slice-aggregate-judge-procedure-2 c = search needs
-
 -- the part is the code of procedure p
 code-is : (c : tie.After-part Inv-loop μ-loop) → c .part .result .now ≡ codeOf (c .before .before .before .before .before .before .before .before .before .before .before .before .args .table .now) (procedureIn (c .before .before .before .before .before .before .before .before .before .before .before .before .args .t2) (c .before .before .before .before .before .before .before .before .before .before .loop .p))
 unfolding codeOf procedureIn
@@ -86,22 +53,10 @@ judge-procedure-requires : tie.Need-judge-procedure-requires Inv-loop μ-loop
 unfolding procedureIn
 judge-procedure-requires c κs = (code-is (c .before .before), omega arith, omega arith)
 
-enum-known-verdict : tie.Need-enum-known-verdict Inv-loop μ-loop
-enum-known-verdict c = search needs
-
 returns-2 : tie.Need-returns-2 Inv-loop μ-loop
 unfolding procedureIn
 returns-2 c =
     sym (c .before .before .before .before .before .before .before .before .before .before .before .before .before .before .before .before .before .before .loop .inv .1 ∙ pass-refused _ _ _ _ _ _ _ (passes-at (c .before .before .before .before .before .before .before .before .before .before .before .before .before .before .before .before .before .before .before .before .args .t2) (room (c .before .before .before .before .before .before .before .before .before .before .before .before .before .before .before .before .before .before)) _ (c .before .before .before .before .before .before .before .before .before .before .before .before .before .before .before .before .if1 .left) (c .before .before .before .before .before .before .before .before .before .before .before .before .before .before .before .before .before .loop-test .taken)) (passes-entry (c .before .before .before .before .before .before .before .before .before .before .before .before .before .before .before .before .before .before .before .before .args .t2) (room (c .before .before .before .before .before .before .before .before .before .before .before .before .before .before .before .before .before .before)) _ (c .before .before .before .before .before .before .before .before .before .before .before .before .before .before .before .before .if1 .left)) (trusted-verdict _ _ _ _ _ _ (trusted-is (c .before .before .before .before .before .before .before .before .before .before .before .before) ∙ c .before .before .before .before .before .before .before .before .before .before .before .if3 .taken) (code-is (c .before .before .before .before .before .before .before .before)) (c .before .before .before .before .before .judge-procedure .ensures _) ∙ c .before .verdict .given .1))
-
-enum-told : tie.Need-enum-told Inv-loop μ-loop
-enum-told c = search needs
-
-add-p : tie.Need-add-p Inv-loop μ-loop
-add-p c = omega arith
-
-loop-less : tie.Need-loop-less Inv-loop μ-loop
-loop-less c = omega arith
 
 loop-again : tie.Need-loop-again Inv-loop μ-loop
 unfolding procedureIn codeOf
@@ -122,29 +77,4 @@ returns-3 : tie.Need-returns-3 Inv-loop μ-loop
 returns-3 c = sym (c .before .loop .inv .1 ∙ pass-end _ _ _ _ (passes-all (c .before .before .before .args .t2) (room (c .before)) _ (c .loop-test .left)))
 
 pub leaks-from-spec : {M : Type 1} → statement M
-leaks-from-spec =
-    tie.close
-    (tie.spec
-    Inv-loop
-    μ-loop
-    loop-holds
-    returns
-    mul-own
-    element-copy-out-own
-    cast-owner
-    mul-module-row
-    element-copy-out-module-row
-    is-trusted-requires
-    cast-part
-    cast-part-2
-    part-requires
-    slice-aggregate-judge-procedure
-    slice-aggregate-judge-procedure-2
-    judge-procedure-requires
-    enum-known-verdict
-    returns-2
-    enum-told
-    add-p
-    loop-less
-    loop-again
-    returns-3)
+leaks-from-spec = tie.close (tie.spec Inv-loop μ-loop loop-holds returns (λ c. omega arith) (λ c. omega arith) (λ c. search needs) (λ c. omega arith) (λ c. omega arith) (λ c κs. search needs) (λ c. search needs) (λ c. search needs) (λ c κs. search needs) (λ c. search needs) (λ c. search needs) judge-procedure-requires (λ c. search needs) returns-2 (λ c. search needs) (λ c. omega arith) (λ c. omega arith) loop-again returns-3)

@@ -21,20 +21,8 @@ returns c = sym (clear-many _ (c .if1 .taken))
 loop-holds : tie.Need-loop-holds Inv-loop μ-loop
 loop-holds c = (omega arith, clear-start (c .before .args .t1))
 
-cast-if2 : tie.Need-cast-if2 Inv-loop μ-loop
-cast-if2 c = search needs
-
-element-copy-out-if3 : tie.Need-element-copy-out-if3 Inv-loop μ-loop
-element-copy-out-if3 c = omega arith
-
 returns-2 : tie.Need-returns-2 Inv-loop μ-loop
 returns-2 c = sym (clear-found _ _ (c .before .before .before .before .loop .inv .1) (c .before .before .if2 .taken) (c .if3 .taken))
-
-add-r : tie.Need-add-r Inv-loop μ-loop
-add-r c = omega arith
-
-loop-less : tie.Need-loop-less Inv-loop μ-loop
-loop-less c = omega arith
 
 loop-again : tie.Need-loop-again Inv-loop μ-loop
 loop-again c = (
@@ -49,17 +37,4 @@ returns-3 : tie.Need-returns-3 Inv-loop μ-loop
 returns-3 c = sym (clear-end (c .before .before .before .args .t1) (c .before .loop .r) (c .before .loop .inv .1) (sym (length-map (c .before .before .before .args .t1 .fresh) _) ∙ c .before .before .before .good .0 .1 .1 .1 .1 .1 .1 .0 .1 .0 .1) (omega arith) (c .before .before .if1 .left))
 
 pub makes-no-mark-spec : {M : Type 1} → statement M
-makes-no-mark-spec =
-    tie.close
-    (tie.spec
-    Inv-loop
-    μ-loop
-    returns
-    loop-holds
-    cast-if2
-    element-copy-out-if3
-    returns-2
-    add-r
-    loop-less
-    loop-again
-    returns-3)
+makes-no-mark-spec = tie.close (tie.spec Inv-loop μ-loop returns loop-holds (λ c. search needs) (λ c. omega arith) returns-2 (λ c. omega arith) (λ c. omega arith) loop-again returns-3)

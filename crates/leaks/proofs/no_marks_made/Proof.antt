@@ -21,24 +21,9 @@ abbrev μ-loop : tie.MeasureT-loop
 loop-holds : tie.Need-loop-holds Inv-loop μ-loop
 loop-holds c = (omega arith, every-none _)
 
-mul-shape : tie.Need-mul-shape Inv-loop μ-loop
-mul-shape c = omega arith
-
-element-copy-out-shape : tie.Need-element-copy-out-shape Inv-loop μ-loop
-element-copy-out-shape c = omega arith
-
-makes-no-mark-requires : tie.Need-makes-no-mark-requires Inv-loop μ-loop
-makes-no-mark-requires c κs = search needs
-
 returns : tie.Need-returns Inv-loop μ-loop
 unfolding stepsOf
 returns c = sym (every-fails _ _ (c .before .before .before .before .loop .k) (c .before .before .before .loop-test .taken) (sym (c .before .makes-no-mark .ensures) ∙ not-true _ (c .if1 .taken)))
-
-add-k : tie.Need-add-k Inv-loop μ-loop
-add-k c = omega arith
-
-loop-less : tie.Need-loop-less Inv-loop μ-loop
-loop-less c = omega arith
 
 loop-again : tie.Need-loop-again Inv-loop μ-loop
 unfolding stepsOf
@@ -48,17 +33,4 @@ returns-2 : tie.Need-returns-2 Inv-loop μ-loop
 returns-2 c = let e : c .before .loop .k ≡ c .before .before .args .n = omega arith in sym (rw e at (c .before .loop .inv .1))
 
 pub no-marks-made-spec : {M : Type 1} → statement M
-no-marks-made-spec =
-    tie.close
-    (tie.spec
-    Inv-loop
-    μ-loop
-    loop-holds
-    mul-shape
-    element-copy-out-shape
-    makes-no-mark-requires
-    returns
-    add-k
-    loop-less
-    loop-again
-    returns-2)
+no-marks-made-spec = tie.close (tie.spec Inv-loop μ-loop loop-holds (λ c. omega arith) (λ c. omega arith) (λ c κs. search needs) returns (λ c. omega arith) (λ c. omega arith) loop-again returns-2)

@@ -8,50 +8,17 @@ use Rattle.leaks.proofs.Moves.{operand-stored, operand-lost, operand-wi
 use Rattle.leaks.proofs.operand_moves.Statement.{statement}
 use Rattle.leaks.proofs.operand_moves.Tie as tie
 
-cast-takes : tie.Need-cast-takes
-cast-takes c = search needs
-
-sub-if1 : tie.Need-sub-if1
-sub-if1 c = search needs
-
-add-add : tie.Need-add-add
-add-add c = search needs
-
-add-requires : tie.Need-add-requires
-add-requires c κs = search needs
-
 returns : tie.Need-returns
 unfolding placesOf added viewStep
 returns c = c .add .ensures ∙ operand-stored (viewStep (c .before .before .before .before .before .before .before .before .args .s)) _ (c .before .before .before .before .before .before .before .before .pre .0) (c .before .before .before .before .before .before .if1 .taken) (c .before .before .before .before .if2 .taken) (c .before .before .if3 .taken)
-
-carried-requires : tie.Need-carried-requires
-carried-requires c κs = search needs
 
 returns-2 : tie.Need-returns-2
 unfolding placesOf viewStep
 returns-2 c = c .carried .ensures ∙ operand-lost (viewStep (c .before .before .before .before .before .before .before .args .s)) _ (c .before .before .before .before .before .before .before .pre .0) (c .before .before .before .before .before .if1 .taken) (inr (c .before .if3 .left))
 
-carried-requires-2 : tie.Need-carried-requires-2
-carried-requires-2 c κs = search needs
-
 returns-3 : tie.Need-returns-3
 unfolding placesOf viewStep
 returns-3 c = c .carried2 .ensures ∙ operand-lost (viewStep (c .before .before .before .before .before .args .s)) _ (c .before .before .before .before .before .pre .0) (c .before .before .before .if1 .taken) (inl (c .before .if2 .left))
-
-sub-y : tie.Need-sub-y
-sub-y c = search needs
-
-cast-y : tie.Need-cast-y
-cast-y c = search needs
-
-add-y : tie.Need-add-y
-add-y c = search needs
-
-cast-add : tie.Need-cast-add
-cast-add c = search needs
-
-add-requires-2 : tie.Need-add-requires-2
-add-requires-2 c κs = search needs
 
 returns-4 : tie.Need-returns-4
 unfolding placesOf added viewStep
@@ -62,22 +29,4 @@ unfolding placesOf viewStep
 returns-5 c = operand-past (viewStep (c .before .before .before .before .args .s)) _ (c .before .before .before .before .pre .0) _ (ap (λ (k : ℕ). c .before .before .before .before .args .x - c .before .before .before .before .args .s .takes + k) (length-fresh (c .before .before .before .before .args .s))) (c .before .before .if1 .left) (c .if4 .left)
 
 pub operand-moves-spec : {M : Type 1} → statement M
-operand-moves-spec =
-    tie.close
-    (tie.spec
-    cast-takes
-    sub-if1
-    add-add
-    add-requires
-    returns
-    carried-requires
-    returns-2
-    carried-requires-2
-    returns-3
-    sub-y
-    cast-y
-    add-y
-    cast-add
-    add-requires-2
-    returns-4
-    returns-5)
+operand-moves-spec = tie.close (tie.spec (λ c. search needs) (λ c. search needs) (λ c. search needs) (λ c κs. search needs) returns (λ c κs. search needs) returns-2 (λ c κs. search needs) returns-3 (λ c. search needs) (λ c. search needs) (λ c. search needs) (λ c. search needs) (λ c κs. search needs) returns-4 returns-5)

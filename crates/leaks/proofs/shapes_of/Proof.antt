@@ -23,41 +23,8 @@ abbrev μ-loop : tie.MeasureT-loop
 loop-holds : tie.Need-loop-holds Inv-loop μ-loop
 loop-holds c = (omega arith, (refl, λ j h. absurd (omega arith)))
 
-row-at-requires : tie.Need-row-at-requires Inv-loop μ-loop
-row-at-requires c κs = search needs
-
-named-number-requires : tie.Need-named-number-requires Inv-loop μ-loop
-named-number-requires c κs = search needs
-
-mul-named : tie.Need-mul-named Inv-loop μ-loop
-mul-named c = omega arith
-
-element-copy-out-named : tie.Need-element-copy-out-named Inv-loop μ-loop
-element-copy-out-named c = omega arith
-
-cast-called : tie.Need-cast-called Inv-loop μ-loop
-cast-called c = search needs
-
-mul-callee : tie.Need-mul-callee Inv-loop μ-loop
-mul-callee c = omega arith
-
-element-copy-out-callee : tie.Need-element-copy-out-callee Inv-loop μ-loop
-element-copy-out-callee c = omega arith
-
-shape-of-requires : tie.Need-shape-of-requires Inv-loop μ-loop
-shape-of-requires c κs = search needs
-
-mul-at : tie.Need-mul-at Inv-loop μ-loop
-mul-at c = omega arith
-
 array-set-from-at : tie.Need-array-set-from-at Inv-loop μ-loop
 array-set-from-at c = omega (arith, c .before .before .before .before .before .before .before .loop .inv .1 .0)
-
-add-i : tie.Need-add-i Inv-loop μ-loop
-add-i c = omega arith
-
-loop-less : tie.Need-loop-less Inv-loop μ-loop
-loop-less c = omega arith
 
 -- what the instruction names
 named-is : (c : tie.Joined1 Inv-loop μ-loop) → c .if1 .named ≡ typeIn (c .before .before .before .before .before .before .before .args .t4) (c .before .named-number .result)
@@ -85,23 +52,4 @@ unfolding stepsOf
 returns c = λ j h. c .before .loop .inv .1 .1 j (omega arith)
 
 pub shapes-of-spec : {M : Type 1} → statement M
-shapes-of-spec =
-    tie.close
-    (tie.spec
-    Inv-loop
-    μ-loop
-    loop-holds
-    row-at-requires
-    named-number-requires
-    mul-named
-    element-copy-out-named
-    cast-called
-    mul-callee
-    element-copy-out-callee
-    shape-of-requires
-    mul-at
-    array-set-from-at
-    add-i
-    loop-less
-    loop-again
-    returns)
+shapes-of-spec = tie.close (tie.spec Inv-loop μ-loop loop-holds (λ c κs. search needs) (λ c κs. search needs) (λ c. omega arith) (λ c. omega arith) (λ c. search needs) (λ c. omega arith) (λ c. omega arith) (λ c κs. search needs) (λ c. omega arith) array-set-from-at (λ c. omega arith) (λ c. omega arith) loop-again returns)

@@ -22,28 +22,10 @@ loop-holds : tie.Need-loop-holds Inv-loop μ-loop
 unfolding codeVerdict
 loop-holds c = (omega arith, whole Accepted (λ (number j : ℕ). Refused number (_ + j)) _ _)
 
-row-at-requires : tie.Need-row-at-requires Inv-loop μ-loop
-row-at-requires c κs = search needs
-
-fault-at-requires : tie.Need-fault-at-requires Inv-loop μ-loop
-fault-at-requires c κs = omega arith
-
-cast-t12 : tie.Need-cast-t12 Inv-loop μ-loop
-cast-t12 c = search needs
-
-add-t13 : tie.Need-add-t13 Inv-loop μ-loop
-add-t13 c = omega arith
-
 returns : tie.Need-returns Inv-loop μ-loop
 returns c =
     let z : faultFrom (c .before .before .before .before .before .before .before .before .args .nodes .now) (rowAt (c .before .before .before .before .before .before .before .before .args .code .now) (c .before .before .before .before .before .loop .i)) (rowCount (c .before .before .before .before .before .before .before .before .args .code .now)) (c .before .before .before .before .before .before .before .before .args .count) (c .before .before .before .before .before .before .before .before .args .records) (c .before .before .before .before .before .loop .i) ≡ c .before .before .fault-at .result = rw (← c .before .before .before .row-at .ensures) (sym (c .before .before .fault-at .ensures)) in
     sym (c .before .before .before .before .before .loop .inv .1 ∙ faulty Accepted (λ (number j : ℕ). Refused number (_ + j)) _ _ _ (omega arith) (λ q. c .before .if1 .taken (sym z ∙ q)) ∙ ap (λ (x : ℕ). Refused x (c .before .before .before .before .before .before .before .before .args .own .code + c .before .before .before .before .before .loop .i)) z)
-
-add-i : tie.Need-add-i Inv-loop μ-loop
-add-i c = omega arith
-
-loop-less : tie.Need-loop-less Inv-loop μ-loop
-loop-less c = omega arith
 
 loop-again : tie.Need-loop-again Inv-loop μ-loop
 loop-again c =
@@ -56,18 +38,4 @@ returns-2 c =
     sym (c .before .loop .inv .1 ∙ rw e (done Accepted (λ (number j : ℕ). Refused number (_ + j)) _ _))
 
 pub judge-code-spec : {M : Type 1} → statement M
-judge-code-spec =
-    tie.close
-    (tie.spec
-    Inv-loop
-    μ-loop
-    loop-holds
-    row-at-requires
-    fault-at-requires
-    cast-t12
-    add-t13
-    returns
-    add-i
-    loop-less
-    loop-again
-    returns-2)
+judge-code-spec = tie.close (tie.spec Inv-loop μ-loop loop-holds (λ c κs. search needs) (λ c κs. omega arith) (λ c. search needs) (λ c. omega arith) returns (λ c. omega arith) (λ c. omega arith) loop-again returns-2)

@@ -10,21 +10,12 @@ use borrow.Author.Needs.{needs}
 use Rattle.locals.proofs.judge_procedure.Statement.{statement}
 use Rattle.locals.proofs.judge_procedure.Tie as tie
 
-over-limits-requires : tie.Need-over-limits-requires
-over-limits-requires c κs = search needs
-
 returns : tie.Need-returns
 returns c = sym (rw (c .before .before .before .before .before .before .pre .0) (limited-out _ _ _ (sym (c .before .over-limits .ensures) ∙ c .if1 .taken)))
 
 returns-2 : tie.Need-returns-2
 unfolding codeVerdict firstFault
 returns-2 c = rw (c .if2 .taken)
-
-local-count-requires : tie.Need-local-count-requires
-local-count-requires c κs = search needs
-
-parameter-count-requires : tie.Need-parameter-count-requires
-parameter-count-requires c κs = search needs
 
 -- past the test the procedure is within the limits
 limits : (c : tie.After-local-count) → (localCount (c .before .before .before .before .before .before .before .before .args .own) ≤ 16) × (rowCount (c .before .before .before .before .before .before .before .before .args .code .now) ≤ 256)
@@ -39,29 +30,10 @@ record-locals-requires c κs = omega (arith, limits (c .before .before .before .
 judge-code-requires : tie.Need-judge-code-requires
 judge-code-requires c κs = omega (arith, limits (c .before .before .before .before .before .before .before .before .before .before), c .before .before .before .before .before .before .before .before .before .before .local-count .ensures)
 
-same-length : tie.Need-same-length
-same-length c = search needs
-
-same-length-2 : tie.Need-same-length-2
-same-length-2 c = search needs
-
 returns-3 : tie.Need-returns-3
 returns-3 c =
     rw (limited-in _ (c .before .before .before .before .before .before .before .before .before .before .before .before .before .before .before .before .before .before .before .args .own) _ (sym (c .before .before .before .before .before .before .before .before .before .before .before .before .before .before .over-limits .ensures) ∙ c .before .before .before .before .before .before .before .before .before .before .before .before .before .if1 .left))
     (procedure-verdict _ (c .before .before .before .before .before .before .before .before .before .before .before .before .before .before .before .before .before .before .before .args .code .now) (c .before .before .before .before .before .before .before .before .before .before .before .before .before .before .before .before .before .before .before .args .own) (c .before .before .before .before .before .before .before .spread-locals .last .0) _ _ _ _ (c .before .before .before .before .before .before .before .before .before .before .before .before .before .before .before .before .before .before .before .pre .0) (c .before .before .before .before .before .before .before .before .before .before .before .local-count .ensures) (c .before .before .before .before .before .before .before .before .before .before .parameter-count .ensures) (c .before .before .record-locals .ensures) (limits (c .before .before .before .before .before .before .before .before .before .before .before) .0) (c .before .before .before .before .before .before .before .spread-locals .ensures) (c .judge-code .ensures))
 
 pub judge-procedure-spec : {M : Type 1} → statement M
-judge-procedure-spec =
-    tie.close
-    (tie.spec
-    over-limits-requires
-    returns
-    returns-2
-    local-count-requires
-    parameter-count-requires
-    spread-locals-requires
-    record-locals-requires
-    judge-code-requires
-    same-length
-    same-length-2
-    returns-3)
+judge-procedure-spec = tie.close (tie.spec (λ c κs. search needs) returns returns-2 (λ c κs. search needs) (λ c κs. search needs) spread-locals-requires record-locals-requires judge-code-requires (λ c. search needs) (λ c. search needs) returns-3)

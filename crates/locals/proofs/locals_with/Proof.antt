@@ -35,46 +35,13 @@ code-is c = c .part .ensures .0
 returns : tie.Need-returns Inv-loop μ-loop
 returns c = sym (c .before .before .loop .inv .1 ∙ pass-end _ _ _ _ (passes-past (c .before .before .before .before .args .t2) (room (c .before .before)) (c .before .before .loop .p) (omega arith)))
 
-mul-own : tie.Need-mul-own Inv-loop μ-loop
-mul-own c = omega arith
-
-element-copy-out-own : tie.Need-element-copy-out-own Inv-loop μ-loop
-element-copy-out-own c = omega arith
-
-cast-part : tie.Need-cast-part Inv-loop μ-loop
-cast-part c = search needs
-
-cast-part-2 : tie.Need-cast-part-2 Inv-loop μ-loop
-cast-part-2 c = search needs
-
-part-requires : tie.Need-part-requires Inv-loop μ-loop
-part-requires c κs = search needs
-
-slice-aggregate-judge-procedure : tie.Need-slice-aggregate-judge-procedure Inv-loop μ-loop
-slice-aggregate-judge-procedure c = search needs
-
-slice-aggregate-judge-procedure-2 : tie.Need-slice-aggregate-judge-procedure-2 Inv-loop μ-loop
-slice-aggregate-judge-procedure-2 c = search needs
-
 judge-procedure-requires : tie.Need-judge-procedure-requires Inv-loop μ-loop
 unfolding procedureIn
 judge-procedure-requires c κs = (code-is (c .before .before), omega arith, omega arith)
 
-enum-known-verdict : tie.Need-enum-known-verdict Inv-loop μ-loop
-enum-known-verdict c = search needs
-
 returns-2 : tie.Need-returns-2 Inv-loop μ-loop
 unfolding procedureIn
 returns-2 c = sym (c .before .before .before .before .before .before .before .before .before .before .before .before .before .before .loop .inv .1 ∙ pass-refused _ _ _ _ _ _ _ (passes-at (c .before .before .before .before .before .before .before .before .before .before .before .before .before .before .before .before .args .t2) (room (c .before .before .before .before .before .before .before .before .before .before .before .before .before .before)) _ (c .before .before .before .before .before .before .before .before .before .before .before .before .if1 .left) (c .before .before .before .before .before .before .before .before .before .before .before .before .before .loop-test .taken)) (passes-entry (c .before .before .before .before .before .before .before .before .before .before .before .before .before .before .before .before .args .t2) (room (c .before .before .before .before .before .before .before .before .before .before .before .before .before .before)) _ (c .before .before .before .before .before .before .before .before .before .before .before .before .if1 .left)) (on-part _ _ _ _ _ _ _ (code-is (c .before .before .before .before .before .before .before .before)) (c .before .before .before .before .before .judge-procedure .ensures) ∙ c .before .verdict .given .1))
-
-enum-told : tie.Need-enum-told Inv-loop μ-loop
-enum-told c = search needs
-
-add-p : tie.Need-add-p Inv-loop μ-loop
-add-p c = omega arith
-
-loop-less : tie.Need-loop-less Inv-loop μ-loop
-loop-less c = omega arith
 
 loop-again : tie.Need-loop-again Inv-loop μ-loop
 unfolding procedureIn
@@ -89,25 +56,4 @@ returns-3 : tie.Need-returns-3 Inv-loop μ-loop
 returns-3 c = sym (c .before .loop .inv .1 ∙ pass-end _ _ _ _ (passes-all (c .before .before .before .args .t2) (room (c .before)) _ (c .loop-test .left)))
 
 pub locals-with-spec : {M : Type 1} → statement M
-locals-with-spec =
-    tie.close
-    (tie.spec
-    Inv-loop
-    μ-loop
-    loop-holds
-    returns
-    mul-own
-    element-copy-out-own
-    cast-part
-    cast-part-2
-    part-requires
-    slice-aggregate-judge-procedure
-    slice-aggregate-judge-procedure-2
-    judge-procedure-requires
-    enum-known-verdict
-    returns-2
-    enum-told
-    add-p
-    loop-less
-    loop-again
-    returns-3)
+locals-with-spec = tie.close (tie.spec Inv-loop μ-loop loop-holds returns (λ c. omega arith) (λ c. omega arith) (λ c. search needs) (λ c. search needs) (λ c κs. search needs) (λ c. search needs) (λ c. search needs) judge-procedure-requires (λ c. search needs) returns-2 (λ c. search needs) (λ c. omega arith) (λ c. omega arith) loop-again returns-3)

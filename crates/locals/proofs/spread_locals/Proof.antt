@@ -25,35 +25,17 @@ loop-holds c = (refl, refl, λ m h. absurd (omega arith))
 fits : (c : tie.In-loop Inv-loop μ-loop) → 2 * rowCount (c .before .before .before .before .before .args .code .now) * c .before .loop .l + 2 * rowCount (c .before .before .before .before .before .args .code .now) ≤ length (c .before .loop .nodes)
 fits c = omega (arith, part-fits (2 * rowCount (c .before .before .before .before .before .args .code .now)) (c .before .loop .l) (c .before .before .before .before .before .args .count) (c .loop-test .taken))
 
-mul-from : tie.Need-mul-from Inv-loop μ-loop
-mul-from c = omega arith
-
 mul-from-2 : tie.Need-mul-from-2 Inv-loop μ-loop
 mul-from-2 c = omega (arith, nodes-fit (rowCount (c .before .before .before .before .before .args .code .now)) (c .before .loop .l) (omega arith) (omega arith))
 
-mul-to : tie.Need-mul-to Inv-loop μ-loop
-mul-to c = omega arith
-
 add-to : tie.Need-add-to Inv-loop μ-loop
 add-to c = omega (arith, nodes-fit (rowCount (c .before .before .before .before .before .args .code .now)) (c .before .loop .l) (omega arith) (omega arith))
-
-sub-spread-local : tie.Need-sub-spread-local Inv-loop μ-loop
-sub-spread-local c = omega arith
-
-part-spread-local-start : tie.Need-part-spread-local-start Inv-loop μ-loop
-part-spread-local-start c = omega arith
 
 part-spread-local-end : tie.Need-part-spread-local-end Inv-loop μ-loop
 part-spread-local-end c = fits c
 
 spread-local-requires : tie.Need-spread-local-requires Inv-loop μ-loop
 spread-local-requires c κs = (length-part _ _ (c .before .before .before .loop .nodes) (fits (c .before .before)), omega arith, omega arith, omega arith)
-
-add-l : tie.Need-add-l Inv-loop μ-loop
-add-l c = omega arith
-
-loop-less : tie.Need-loop-less Inv-loop μ-loop
-loop-less c = omega arith
 
 loop-again : tie.Need-loop-again Inv-loop μ-loop
 loop-again c =
@@ -74,23 +56,4 @@ returns : tie.Need-returns Inv-loop μ-loop
 returns c = λ m h. c .before .loop .inv .2 m (omega arith)
 
 pub spread-locals-spec : {M : Type 1} → statement M
-spread-locals-spec =
-    tie.close
-    (tie.spec
-    Inv-loop
-    μ-loop
-    loop-holds
-    mul-from
-    mul-from-2
-    mul-to
-    add-to
-    sub-spread-local
-    part-spread-local-start
-    part-spread-local-end
-    spread-local-requires
-    add-l
-    loop-less
-    loop-again
-    same-length
-    same-length-2
-    returns)
+spread-locals-spec = tie.close (tie.spec Inv-loop μ-loop loop-holds (λ c. omega arith) mul-from-2 (λ c. omega arith) add-to (λ c. omega arith) (λ c. omega arith) part-spread-local-end spread-local-requires (λ c. omega arith) (λ c. omega arith) loop-again same-length same-length-2 returns)

@@ -4,9 +4,6 @@ use Rattle.flow.specs.Places.{statusAfter}
 use Rattle.locals.proofs.status_after.Statement.{statement}
 use Rattle.locals.proofs.status_after.Tie as tie
 
-cast-if1 : tie.Need-cast-if1
-cast-if1 c = search needs
-
 returns : tie.Need-returns
 unfolding statusAfter
 returns c = rw (ne-eqb _ _ (c .if1 .taken))
@@ -24,4 +21,4 @@ unfolding statusAfter
 returns-4 c = rw (eq-eqb _ _ (c .before .before .before .before .if1 .left), ne-eqb _ _ (c .before .before .if2 .left), ne-eqb _ _ (c .if3 .left))
 
 pub status-after-spec : {M : Type 1} → statement M
-status-after-spec = tie.close (tie.spec cast-if1 returns returns-2 returns-3 returns-4)
+status-after-spec = tie.close (tie.spec (λ c. search needs) returns returns-2 returns-3 returns-4)

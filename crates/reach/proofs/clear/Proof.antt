@@ -34,15 +34,6 @@ abbrev μ-loop : tie.MeasureT-loop
 loop-holds : tie.Need-loop-holds Inv-loop μ-loop
 loop-holds c = (omega arith, refl, refl)
 
-slice-write-visited : tie.Need-slice-write-visited Inv-loop μ-loop
-slice-write-visited c = omega arith
-
-add-i : tie.Need-add-i Inv-loop μ-loop
-add-i c = omega arith
-
-loop-less : tie.Need-loop-less Inv-loop μ-loop
-loop-less c = omega arith
-
 loop-again : tie.Need-loop-again Inv-loop μ-loop
 loop-again c = let inv = c .before .loop .inv in (omega arith, fill-more _ _ (inv .1) (omega arith), simp length-set (inv .2))
 
@@ -53,4 +44,4 @@ returns : tie.Need-returns Inv-loop μ-loop
 returns c = fill-all (c .before .loop .i) (c .before .before .args .visited .now) (c .before .loop .inv .1) (omega arith)
 
 pub clear-spec : {M : Type 1} → statement M
-clear-spec = tie.close (tie.spec Inv-loop μ-loop loop-holds slice-write-visited add-i loop-less loop-again same-length returns)
+clear-spec = tie.close (tie.spec Inv-loop μ-loop loop-holds (λ c. omega arith) (λ c. omega arith) (λ c. omega arith) loop-again same-length returns)

@@ -9,9 +9,6 @@ use Rattle.reach.proofs.visit.Tie as tie
 returns : tie.Need-returns
 returns c = let a = c .before .args in sym (visit-outside (a .visited .now) _ _ (a .v) (omega arith))
 
-slice-read-if2 : tie.Need-slice-read-if2
-slice-read-if2 c = search needs
-
 returns-2 : tie.Need-returns-2
 returns-2 c = sym (visit-old _ _ _ _ (c .if2 .taken))
 
@@ -21,46 +18,10 @@ returns-3 c = let a = c .before .before .before .before .args in sym (visit-full
 returns-4 : tie.Need-returns-4
 returns-4 c = let a = c .before .before .before .before .before .args in sym (visit-large _ _ _ (a .v) (omega arith))
 
-slice-write-visited : tie.Need-slice-write-visited
-slice-write-visited c = search needs
-
-cast-queue : tie.Need-cast-queue
-cast-queue c = search needs
-
-mul-queue : tie.Need-mul-queue
-mul-queue c = search needs
-
-slice-write-queue : tie.Need-slice-write-queue
-slice-write-queue c = search needs
-
-add-result : tie.Need-add-result
-add-result c = search needs
-
-same-length : tie.Need-same-length
-same-length c = search needs
-
-same-length-2 : tie.Need-same-length-2
-same-length-2 c = search needs
-
 returns-5 : tie.Need-returns-5
 returns-5 c =
     let a = c .before .before .before .before .before .args in
     sym (visit-fresh (a .visited .now) (a .queue .now) (a .tail) (a .v) (omega arith) (c .before .before .if2 .left) (omega arith) (omega arith))
 
 pub visit-spec : {M : Type 1} → statement M
-visit-spec =
-    tie.close
-    (tie.spec
-    returns
-    slice-read-if2
-    returns-2
-    returns-3
-    returns-4
-    slice-write-visited
-    cast-queue
-    mul-queue
-    slice-write-queue
-    add-result
-    same-length
-    same-length-2
-    returns-5)
+visit-spec = tie.close (tie.spec returns (λ c. search needs) returns-2 returns-3 returns-4 (λ c. search needs) (λ c. search needs) (λ c. search needs) (λ c. search needs) (λ c. search needs) (λ c. search needs) (λ c. search needs) returns-5)

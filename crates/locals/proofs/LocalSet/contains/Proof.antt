@@ -5,9 +5,6 @@ use borrow.Author.Needs.{needs}
 use Rattle.locals.proofs.LocalSet.contains.Statement.{statement}
 use Rattle.locals.proofs.LocalSet.contains.Tie as tie
 
-element-copy-out-result : tie.Need-element-copy-out-result
-element-copy-out-result c = search needs
-
 returns : tie.Need-returns
 unfolding contains
 returns c = refl
@@ -16,4 +13,4 @@ returns-2 : tie.Need-returns-2
 returns-2 c = contains-past (c .before .args .t1) (search needs) (c .before .args .l) (c .if1 .left)
 
 pub contains-spec : {M : Type 1} → statement M
-contains-spec = tie.close (tie.spec element-copy-out-result returns returns-2)
+contains-spec = tie.close (tie.spec (λ c. search needs) returns returns-2)

@@ -5,9 +5,6 @@ use borrow.Author.Needs.{needs}
 use Rattle.locals.proofs.LocalSet.insert.Statement.{statement}
 use Rattle.locals.proofs.LocalSet.insert.Tie as tie
 
-element-write-self : tie.Need-element-write-self
-element-write-self c = search needs
-
 returns : tie.Need-returns
 unfolding inserted
 returns c = refl
@@ -16,4 +13,4 @@ returns-2 : tie.Need-returns-2
 returns-2 c = insert-past (c .before .args .t1) (search needs) (c .before .args .l) (c .if1 .left)
 
 pub insert-spec : {M : Type 1} → statement M
-insert-spec = tie.close (tie.spec element-write-self returns returns-2)
+insert-spec = tie.close (tie.spec (λ c. search needs) returns returns-2)
