@@ -18,7 +18,7 @@ use Rattle.state.specs.Cells.{cellsOf}
 use Rattle.state.proofs.Cells.{cells-length, cells-at, cells-set}
 use Rattle.state.specs.Layout.{roomCell, allCells}
 use Rattle.machine.specs.Views.{Same, upFrom}
-use Rattle.interpreter.specs.Calls.{carried, kept, keptOf, freed, filled}
+use Rattle.interpreter.specs.Calls.{carried, kept, keptOf, keptSince, freed, filled}
 
 -- numbers carried from one list to another
 module _ {A : Type 0} (z : A) (ks cs : List A) (at : ℕ) where
@@ -82,6 +82,20 @@ module _ (ks cs : List Operand) (s : State) (a : length ks ≡ allCells) (b : le
   past-kept i l h =
       kept-other first cs 672 (9 * s .rooms) (omega (arith, first-length)) (omega arith) (672 + 9 * s .rooms) allCells (inr (omega arith)) i l h
       ∙ kept-other ks cs 544 (2 * s .entries) (omega arith) (omega arith) 672 allCells (inr (omega arith)) i (omega arith) h
+
+-- what is kept is what there is, in the cells of a state's entries and rooms
+pub record Holds (ks cs : List Operand) (s : State) : Type 0 where
+  pub entries : Same 544 (544 + 2 * s .entries) cs ks
+  pub rooms : Same 672 (672 + 9 * s .rooms) cs ks
+
+module _ (ks cs : List Operand) (s : State) (a : length ks ≡ allCells) (b : length cs ≡ allCells) (stored : s .entries ≤ 64) (rooms-low : s .rooms ≤ 128) where
+  pub length-since : (same : Bool) → length (keptSince same ks cs s) ≡ allCells
+  length-since true = a
+  length-since false = length-kept-of ks cs s a b stored rooms-low
+
+  pub since-holds : (same : Bool) → (same ≡ true → Holds ks cs s) → Holds (keptSince same ks cs s) cs s
+  since-holds true h = h refl
+  since-holds false h = record { entries = entries-kept ks cs s a b stored rooms-low; rooms = rooms-kept ks cs s a b stored rooms-low }
 
 -- heads emptied
 pub length-freed : (cs : List Operand) (r n : ℕ) → length (freed cs r n) ≡ length cs

@@ -1,7 +1,7 @@
 -- A step of the run loop is a step of the machine on lists.
-use Prim.Native.Nat.{ℕ, _+_, _-_, _<_, _≤_}
+use Prim.Native.Nat.{ℕ, _+_, _-_, _%_, _<_, _≤_}
 use mathlib.Core.Path.{_≡_, refl, _∙_}
-use mathlib.Core.Bool.{true}
+use mathlib.Core.Bool.{true, false, true≢false}
 use mathlib.Core.List.{List, [], _∷_}
 use native.Mathlib.Omega.{arith}
 use lib.Dec.{eqb}
@@ -14,11 +14,12 @@ use Rattle.declarations.specs.Program.{procedureIn, localCount, localKind, para
 use Rattle.effects.specs.Effects.{effects}
 use Rattle.acceptance.specs.Judged.{Judged}
 use Rattle.state.specs.declared.Operand.{Operand}
-use Rattle.state.specs.declared.Operand.the-variants.{Record}
+use Rattle.state.specs.declared.Operand.the-variants.{Number, Record, Refer}
+use Rattle.state.specs.declared.Reference.the-variants.{Local}
 use Rattle.state.specs.declared.frames.State.{State}
 use Rattle.state.specs.Coding.{secondOf}
 use Rattle.state.specs.Layout.{operandCell, roomCell}
-use Rattle.state.specs.Frames.{topAt}
+use Rattle.state.specs.Frames.{topAt, goneTo}
 use Rattle.state.specs.Rooms.{isLive}
 use Rattle.machine.specs.Machine.{doings, backTo}
 use Rattle.machine.specs.Runs.{did, mstep}
@@ -26,6 +27,7 @@ use Rattle.machine.specs.Views.{upFrom, operandsIn, viewOf}
 use Rattle.machine.proofs.Views.{length-up, length-down, top-is}
 use Rattle.machine.proofs.Memory.{headIn, room-of}
 use Rattle.frame.specs.Turning.{Turning, ends, broken}
+use Rattle.frame.specs.Stack.{poppedBy}
 use Rattle.step.specs.Step.{turns, turnOf}
 use Rattle.frame.specs.Meaning.{outcomeOf, doing, Stands, Kept}
 use Rattle.laws.proofs.Cases.{Each, _▸_, each-listed}
@@ -36,9 +38,10 @@ use Rattle.records.proofs.PackingArms.{pack-is, pack-kept, unpack-is, unpack-ke
 use Rattle.records.proofs.PublishedArms.{move-to-is, move-to-kept, move-from-is, move-from-kept, global-is, global-kept, exists-is, exists-kept}
 use Rattle.frame.proofs.ControlArms.{call-is, call-kept, ret-is, ret-kept, branch-is, branch-kept, branch-cond-is, branch-cond-kept}
 use Rattle.frame.proofs.OperationsArms.{op-is, op-kept}
-use Rattle.interpreter.specs.Run.{procedureOf, typeOf, turnAt, stepAt}
+use Rattle.interpreter.specs.Run.{procedureOf, typeOf, changesMemory, rowOf, turnAt, stepAt}
 use Rattle.interpreter.proofs.Live.{Live, live-step}
 use Rattle.interpreter.proofs.Frames.{live-low}
+use Rattle.interpreter.proofs.Untouched.{Untouched, stays, pushes, moves, copies, stores, reads, borrows, finds, asks, called, returned, branches, operates}
 use Rattle.interpreter.proofs.Facts.{own, row, takes, opcode, own-same, row-same, row-instruction, taken, takes-is, pushed-room, type-low, field-low, named-same, packs, callee-same, calls, returns, return-room, local-low, local-kind}
 
 -- how many operands there are
@@ -164,3 +167,32 @@ module _ (t : List ℕ) (J : Judged t (indexOf t)) (cs : List Operand) (s : Stat
     pub step-kept : Kept cs s (stepAt t (indexOf t) cs s)
     unfolding turns
     step-kept = rw step-turn (each-listed (λ (a : ℕ) (turn : Turning). now .a ≡ a → Kept cs s turn) all (ends cs s broken) kept-by-opcode (now .a) (opcode t J cs s l) refl)
+
+  untouched-by-opcode : Each (λ (a : ℕ) (turn : Turning). now .a ≡ a → changesMemory a ≡ false → Untouched cs s turn) all
+  unfolding turns changesMemory effects
+  untouched-by-opcode =
+      (λ e c. stays cs s (poppedBy s) refl refl)
+      ▸ (λ e c. pushes cs s h (s .height) (Number (now .d)) (h .low))
+      ▸ (λ e c. moves cs s h (now .b))
+      ▸ (λ e c. copies cs s h (now .b))
+      ▸ (λ e c. stores cs s h (now .b) (some-taken 4 1 e (takes-is t J cs s l 4 e)))
+      ▸ (λ e c. pushes cs s h (s .height) (Refer (Local (s .serial) (s .depth) (now .b % 256) (localKind t me (now .b) % 65536))) (h .low))
+      ▸ (λ e c. reads cs s h)
+      ▸ (λ e c. absurd (true≢false c))
+      ▸ (λ e c. borrows cs s h (now .b))
+      ▸ (λ e c. absurd (true≢false c))
+      ▸ (λ e c. absurd (true≢false c))
+      ▸ (λ e c. absurd (true≢false c))
+      ▸ (λ e c. absurd (true≢false c))
+      ▸ (λ e c. finds cs s h (now .b))
+      ▸ (λ e c. asks cs s h (now .b))
+      ▸ (λ e c. let p = calls t J cs s l e in rw (callee-same t J cs s l e, ← p .0) (called cs s h many (localCount (procedureIn (indexOf t) (now .b))) (now .b) (taken t J cs s l) (p .1) (p .2)))
+      ▸ (λ e c. let p = returns t J cs s l e in rw (← p .0) (returned cs s h many (taken t J cs s l) (λ q. return-room t J cs s l e (s .depth - 1) (omega arith) .0)))
+      ▸ (λ e c. stays cs s (goneTo s (now .b)) refl refl)
+      ▸ (λ e c. branches cs s h (now .b))
+      ▸ (λ e c. operates cs s h (now .b))
+      ▸ tt
+
+  pub step-untouched : changesMemory (rowOf t (indexOf t) s .a) ≡ false → Untouched cs s (stepAt t (indexOf t) cs s)
+  unfolding turns
+  step-untouched c = rw step-turn (each-listed (λ (a : ℕ) (turn : Turning). now .a ≡ a → changesMemory a ≡ false → Untouched cs s turn) all (ends cs s broken) untouched-by-opcode (now .a) (opcode t J cs s l) refl (rw (row-same t J cs s l) at c))

@@ -1,6 +1,6 @@
 -- A call of a list: its beginning, its instructions, and what there is after it.
 use Prim.Native.Nat.{ℕ, zero, suc, _+_, _-_, _*_}
-use mathlib.Core.Bool.{cond}
+use mathlib.Core.Bool.{Bool, true, not, cond}
 use mathlib.Core.List.{List, [], _∷_}
 use lib.Dec.{eqb, leb}
 use lib.ListN.{length, getD, set}
@@ -15,7 +15,7 @@ use Rattle.state.specs.Layout.{roomCell}
 use Rattle.state.specs.Frames.{nextSerial}
 use Rattle.frame.specs.Turning.{Turning, after, done}
 use Rattle.frame.specs.Control.{within}
-use Rattle.interpreter.specs.Run.{runFrom}
+use Rattle.interpreter.specs.Run.{runFrom, sameFrom}
 
 -- the k members from place `at` on put in place of those of another list
 unfoldable pub carried : {A : Type 0} → A → List A → List A → ℕ → ℕ → List A
@@ -29,6 +29,10 @@ kept ks cs at k = cond (leb (at + k) (length ks)) (cond (leb (at + k) (length cs
 -- the entries and the rooms of a state
 abbrev pub keptOf : List Operand → List Operand → State → List Operand
 keptOf ks cs s = kept (kept ks cs 544 (2 * s .entries)) cs 672 (9 * s .rooms)
+
+-- where they are not kept already
+abbrev pub keptSince : Bool → List Operand → List Operand → State → List Operand
+keptSince same ks cs s = cond same ks (keptOf ks cs s)
 
 -- the heads of n rooms from room r on emptied
 unfoldable pub freed : List Operand → ℕ → ℕ → List Operand
@@ -54,13 +58,25 @@ restored s first = record { serial = s .serial; procedure = s .procedure; at = s
 abbrev pub restoredIn : List Operand → List Operand → State → State → List Operand
 restoredIn cs ks s first = freed (keptOf cs ks first) (first .rooms) (s .rooms - first .rooms)
 
-abbrev pub restoredTo : List Operand → State → Turning → Turning
-restoredTo ks first (after s cs) = cond (eqb (s .stop) done) (after s cs) (after (restored s first) (restoredIn cs ks s first))
+-- `same`: entries and rooms are those of its beginning
+abbrev pub restoredTo : List Operand → State → Bool → Turning → Turning
+restoredTo ks first same (after s cs) = cond same (after s cs) (cond (eqb (s .stop) done) (after s cs) (after (restored s first) (restoredIn cs ks s first)))
 
--- in a table with this index: a call, where `ks` is what was kept before
+-- whether they are those that are kept
+abbrev pub sameRestored : Bool → ℕ → Bool
+sameRestored same stop = cond same true (not (eqb stop done))
+
+-- in a table with this index
 module _ (t : List ℕ) (ix : Index) where
+  -- whether no instruction of a call can change entries or rooms
+  unfoldable pub sameCall : List Operand → State → Call → Bool
+  sameCall cs s (call q budget args) =
+      let count = within (localCount (procedureIn ix q)) in
+      sameFrom t ix budget (begunIn cs count args) (begun s q count)
+
+  -- a call, where `ks` is what is kept
   unfoldable pub callTurn : List Operand → List Operand → State → Call → Turning
   callTurn cs ks s (call q budget args) =
       let count = within (localCount (procedureIn ix q)) in
       let first = begun s q count in
-      restoredTo (keptOf ks cs s) first (runFrom t ix budget (begunIn cs count args) first)
+      restoredTo ks first (sameFrom t ix budget (begunIn cs count args) first) (runFrom t ix budget (begunIn cs count args) first)

@@ -1,7 +1,7 @@
 -- A call of a list by the interpreter's account is one of the machine on lists.
 use Prim.Native.Nat.{ℕ, zero, suc, _+_, _-_, _*_, _<_, _≤_, _^_}
 use mathlib.Core.Path.{_≡_, refl, sym, ap, subst, _∙_}
-use mathlib.Core.Bool.{Bool, true, false}
+use mathlib.Core.Bool.{Bool, true, false, true≢false}
 use mathlib.Core.Logic.{inr}
 use mathlib.Core.List.{List, [], _∷_, _++_, map}
 use mathlib.Core.Option.{none}
@@ -28,16 +28,17 @@ use Rattle.machine.specs.Runs.{MEnd, mend, mrow, mgo}
 use Rattle.machine.specs.Lists.{mafter, numbersOf, mbegin, mline}
 use Rattle.machine.specs.Views.{Same, upFrom, belowIn, roomBy, roomIn, roomsIn, entriesIn, viewOf}
 use Rattle.machine.proofs.Lists.{Between, between-begins}
-use Rattle.machine.proofs.Views.{tab-same, up-same, room-same, entries-same, up-append, up-empty, topmost-down, length-emptied, emptied-other, emptied-there}
+use Rattle.machine.proofs.Views.{tab-same, up-same, room-same, rooms-same, entries-same, up-append, up-empty, topmost-down, length-emptied, emptied-other, emptied-there}
 use Rattle.frame.specs.Turning.{Turning, after, done, broken}
 use Rattle.frame.specs.Control.{within}
 use Rattle.frame.specs.Meaning.{Tidy}
-use Rattle.interpreter.specs.Run.{runFrom}
-use Rattle.interpreter.specs.Calls.{keptOf, begun, begunIn, restored, restoredIn, restoredTo, callTurn}
+use Rattle.interpreter.specs.Run.{runFrom, sameFrom}
+use Rattle.interpreter.specs.Calls.{keptOf, begun, begunIn, restored, restoredIn, restoredTo, sameRestored, callTurn, sameCall}
 use Rattle.interpreter.proofs.Live.{Live, Numbers}
 use Rattle.interpreter.proofs.Frames.{live-stands}
-use Rattle.interpreter.proofs.Keeping.{length-kept-of, entries-kept, rooms-kept, past-kept, length-freed, freed-other, freed-there, length-filled, filled-other, up-filled}
-use Rattle.interpreter.proofs.Follows.{baseIn, Going, Results, After, Ends, run-follows}
+use Rattle.interpreter.proofs.Keeping.{Holds, length-kept-of, entries-kept, rooms-kept, past-kept, length-freed, freed-other, freed-there, length-filled, filled-other, up-filled}
+use Rattle.interpreter.proofs.Follows.{baseIn, Going, Results, EndOf, After, Ends, run-follows, run-untouched}
+use Rattle.interpreter.proofs.Untouched.{Untouched}
 use Rattle.running.specs.Lists.{endLine, lineOf}
 
 -- what lasts from call to call lies within its cells
@@ -66,7 +67,7 @@ unused-none cs r e = go (getD cs (roomCell r) Empty) e
     go : (x : Operand) → isRecord x ≡ false → roomBy cs r x ≡ none
     go Empty q = refl
     go (Number n) q = refl
-    go (Record s k y) q = absurd (mathlib.Core.Bool.true≢false q)
+    go (Record s k y) q = absurd (true≢false q)
     go (Refer x) q = refl
 
 -- The results of a call
@@ -87,7 +88,7 @@ four cs b (suc (suc (suc zero))) l = let e : b + 1 ≡ suc b = omega arith in le
 four cs b (suc (suc (suc (suc zero)))) l = let e : b + 1 ≡ suc b = omega arith in let d : b + 2 ≡ suc (suc b) = omega arith in let f : b + 3 ≡ suc (suc (suc b)) = omega arith in rw (e, d, f)
 four cs b (suc (suc (suc (suc (suc k))))) l = absurd (omega arith)
 
-module _ (t : List ℕ) (J : Judged t (indexOf t)) (cs ks : List Operand) (s : State) (kept-whole : length ks ≡ allCells) (a : Lasting cs s)
+module _ (t : List ℕ) (J : Judged t (indexOf t)) (cs ks : List Operand) (s : State) (kept-whole : length ks ≡ allCells) (holds : Holds ks cs s) (a : Lasting cs s)
     (q budget : ℕ) (args : List ℕ) (c : Callable t (indexOf t) q budget args) (w : Between t J (baseIn cs s)) (records-few : s .records + 65536 < 2 ^ 32) (frames-few : s .frames + 65536 < 2 ^ 32) where
   -- the beginning
   abbrev count : ℕ
@@ -152,36 +153,52 @@ module _ (t : List ℕ) (J : Judged t (indexOf t)) (cs ks : List Operand) (s : S
   fields-few : (r : ℕ) → r < 128 → secondOf (getD cs (roomCell r) Empty) ≤ 8
   fields-few r l = rw (above (roomCell r) (omega arith)) at (begins .stands .fields r l)
 
-  -- restoring
-  abbrev kept : List Operand
-  kept = keptOf ks cs s
+  -- what is left as it was
+  module _ (cs′ : List Operand) (s′ : State) (u : Untouched cells first (after s′ cs′)) where
+    left-same : Same 544 1824 cs cs′
+    left-same i l m = u .2 i l m ∙ above i (omega arith)
 
+    rooms-left : roomsIn cs′ ≡ roomsIn cs
+    rooms-left = rooms-same cs cs′ fields-few (λ i l m. left-same i (omega arith) m)
+
+    entries-left : entriesIn cs′ (s′ .entries) ≡ entriesIn cs (s .entries)
+    entries-left = rw (u .0) (entries-same cs cs′ (s .entries) (λ i l m. left-same i l (omega (arith, a .stored))))
+
+    holds-left : Holds ks cs′ s′
+    holds-left = record {
+      entries = λ i l m. holds .entries i l (omega (arith, u .0)) ∙ sym (left-same i l (omega (arith, u .0, a .stored)));
+      rooms = λ i l m. holds .rooms i l (omega (arith, u .1)) ∙ sym (left-same i (omega arith) (omega (arith, u .1, a .rooms-low)));
+    }
+
+  -- restoring
   module _ (cs′ : List Operand) (s′ : State) (b : After budget first cs′ s′) where
     abbrev back : List Operand
-    back = keptOf cs′ kept first
+    back = keptOf cs′ ks first
 
     abbrev again : List Operand
-    again = restoredIn cs′ kept s′ first
-
-    kept-length : length kept ≡ allCells
-    kept-length = length-kept-of ks cs s kept-whole (a .whole) (a .stored) (a .rooms-low)
+    again = restoredIn cs′ ks s′ first
 
     back-length : length back ≡ allCells
-    back-length = length-kept-of cs′ kept first (b .whole) kept-length (a .stored) (a .rooms-low)
+    back-length = length-kept-of cs′ ks first (b .whole) kept-whole (a .stored) (a .rooms-low)
 
     -- no head below `rooms` and nothing but heads is emptied
     not-freed : (i : ℕ) → ((r : ℕ) → s .rooms ≤ r → i ≡ roomCell r → ⊥) → getD again i Empty ≡ getD back i Empty
     not-freed i o = freed-other back (s .rooms) (s′ .rooms - s .rooms) i (λ j l. o (s .rooms + j) (omega arith))
 
+    entries-back : Same 544 (544 + 2 * s .entries) ks again
+    entries-back i l m = not-freed i (λ r n e. omega (arith, a .stored)) ∙ entries-kept cs′ ks first (b .whole) kept-whole (a .stored) (a .rooms-low) i l m
+
+    rooms-back : Same 672 (672 + 9 * s .rooms) ks again
+    rooms-back i l m = not-freed i (λ p n e. omega arith) ∙ rooms-kept cs′ ks first (b .whole) kept-whole (a .stored) (a .rooms-low) i l m
+
+    holds-again : Holds ks again (restored s′ first)
+    holds-again = record { entries = λ i l m. sym (entries-back i l m); rooms = λ i l m. sym (rooms-back i l m) }
+
     entries-again : entriesIn again (s .entries) ≡ entriesIn cs (s .entries)
-    entries-again = entries-same cs again (s .entries) (λ i l m.
-        not-freed i (λ r n e. omega (arith, a .stored)) ∙ entries-kept cs′ kept first (b .whole) kept-length (a .stored) (a .rooms-low) i l m
-        ∙ entries-kept ks cs s kept-whole (a .whole) (a .stored) (a .rooms-low) i l m)
+    entries-again = entries-same cs again (s .entries) (λ i l m. entries-back i l m ∙ holds .entries i l m)
 
     room-low : (r : ℕ) → r < s .rooms → Same (roomCell r) (roomCell r + 9) cs again
-    room-low r h i l m =
-        not-freed i (λ p n e. omega arith) ∙ rooms-kept cs′ kept first (b .whole) kept-length (a .stored) (a .rooms-low) i (omega arith) (omega arith)
-        ∙ rooms-kept ks cs s kept-whole (a .whole) (a .stored) (a .rooms-low) i (omega arith) (omega arith)
+    room-low r h i l m = rooms-back i (omega arith) (omega arith) ∙ holds .rooms i (omega arith) (omega arith)
 
     head-free : (r : ℕ) → s .rooms ≤ r → r < 128 → isRecord (getD again (roomCell r) Empty) ≡ false
     head-free r l m = go (decLt r (s′ .rooms))
@@ -193,7 +210,7 @@ module _ (t : List ℕ) (J : Judged t (indexOf t)) (cs ks : List Operand) (s : S
             rw (rw (← e) at f) refl
         go (no h) =
             let f = freed-other back (s .rooms) (s′ .rooms - s .rooms) (roomCell r) (λ j n e. omega arith) in
-            let g = past-kept cs′ kept first (b .whole) kept-length (a .stored) (a .rooms-low) (roomCell r) (omega arith) (omega arith) in
+            let g = past-kept cs′ ks first (b .whole) kept-whole (a .stored) (a .rooms-low) (roomCell r) (omega arith) (omega arith) in
             rw (f ∙ g) (b .tidy .unused r (omega arith) m)
 
     rooms-again : roomsIn again ≡ roomsIn cs
@@ -217,21 +234,23 @@ module _ (t : List ℕ) (J : Judged t (indexOf t)) (cs ks : List Operand) (s : S
       where
         in-use-again : (r : ℕ) → r < s .free → Dec (r < s .rooms) → isRecord (getD again (roomCell r) Empty) ≡ true
         in-use-again r l (yes h) = rw (room-low r h (roomCell r) (omega arith) (omega arith)) (a .tidy .in-use r l)
-        in-use-again r l (no h) = absurd (mathlib.Core.Bool.true≢false (sym (a .tidy .in-use r l) ∙ a .tidy .unused r (omega arith) (omega (arith, a .tidy .free-low))))
+        in-use-again r l (no h) = absurd (true≢false (sym (a .tidy .in-use r l) ∙ a .tidy .unused r (omega arith) (omega (arith, a .tidy .free-low))))
 
   -- the end
   abbrev mended : MEnd
   mended = mgo t (indexOf t) budget (mbegin t (indexOf t) q args (baseIn cs s))
 
-  pub record Ending (e : MEnd) (ds : List Operand) (z : State) : Type 0 where
+  -- `same`: no instruction of it could change entries or rooms
+  pub record Ending (same : Bool) (e : MEnd) (ds : List Operand) (z : State) : Type 0 where
     pub base-is : mafter (baseIn cs s) e ≡ baseIn ds z
     pub line-is : (i : ℕ) → mline t (indexOf t) i e ≡ lineOf (indexOf t) i ds z
     pub lasting : Lasting ds z
+    pub holds-still : sameRestored same (z .stop) ≡ true → Holds ks ds z
     pub records-more : z .records ≤ s .records + budget
     pub frames-more : z .frames ≤ s .frames + 1 + budget
 
-  abbrev pub Ended : MEnd → Turning → Type 0
-  Ended e (after z ds) = Ending e ds z
+  abbrev pub Ended : Bool → MEnd → Turning → Type 0
+  Ended same e (after z ds) = Ending same e ds z
 
   -- the line of a call that is done does not tell the row
   done-line : (i r row k : ℕ) (xs : List Operand) (results : List ℕ) → take k results ≡ numbersOf xs → callLine i r (finished (map num (numbersOf xs)) (state [] [] [] 0)) ≡ callLine i row (finished (map num (take k results)) (state [] [] [] 0))
@@ -249,27 +268,45 @@ module _ (t : List ℕ) (J : Judged t (indexOf t)) (cs ks : List Operand) (s : S
       r .many ∙ topmost-down ds (32 * z .depth) (z .height) (resultCount z) (r .there) ∙ ap (λ (b : ℕ). upFrom ds b (resultCount z)) (omega (arith, r .outermost)) in
       four ds (z .height - resultCount z) (resultCount z) (r .few) ∙ ap (map numberOf) (sym e) ∙ numbers-four xs (r .numbers)
 
-  ending : (e : MEnd) (turn : Turning) → Ends t budget first turn e → Ended e (restoredTo kept first turn)
+  -- it is done
+  done-ends : (same : Bool) (m : MState) (xs : List Operand) (v : MState) (ds : List Operand) (z : State) → EndOf t ds z (mend m (mfinished xs v)) → After budget first ds z
+      → (sameRestored same (z .stop) ≡ true → Holds ks ds z) → Ending same (mend m (mfinished xs v)) ds z
   unfolding lineOf endLine
-  ending (mend m (mfinished xs (mstate f fs rooms recs es n))) (after z ds) ((h, r, same), b) =
-      rw (eq-eqb (z .stop) done h) (record {
-        base-is = same;
-        line-is = λ i. rw (eq-eqb (z .stop) done h, le-leb (resultCount z) (z .height) (r .there)) (done-line i (mrow t (indexOf t) m) _ (resultCount z) xs _ (results-are xs ds z r));
-        lasting = record { whole = b .whole; tidy = b .tidy; rooms-low = b .rooms-low; stored = b .stored };
-        records-more = b .records-more;
-        frames-more = omega (arith, b .frames-more, serial-next);
-      })
-  ending (mend m (mstopped k)) (after z ds) ((h, no-done, no-broken, here), b) =
-      rw (ne-eqb (z .stop) done (λ e. no-done (sym h ∙ e))) (record {
-        base-is = subst (λ (v : MState). mafter (baseIn cs s) (mend v (mstopped k)) ≡ baseIn (restoredIn ds kept z first) (restored z first)) (sym here) (rw (rooms-again ds z b, entries-again ds z b));
-        line-is = λ i. rw (ne-eqb (z .stop) done (λ e. no-done (sym h ∙ e)), ne-eqb (z .stop) broken (λ e. no-broken (sym h ∙ e)), h, here);
-        lasting = lasting-again ds z b;
-        records-more = b .records-more;
-        frames-more = omega (arith, b .frames-more, serial-next);
-      })
-  ending (mend m (mnext v)) (after z ds) (h, b) = absurd h
-  ending (mend m mbroken) (after z ds) (h, b) = absurd h
+  done-ends same m xs (mstate f fs rooms recs es n) ds z (h, r, e) b k = record {
+    base-is = e;
+    line-is = λ i. rw (eq-eqb (z .stop) done h, le-leb (resultCount z) (z .height) (r .there)) (done-line i (mrow t (indexOf t) m) _ (resultCount z) xs _ (results-are xs ds z r));
+    lasting = record { whole = b .whole; tidy = b .tidy; rooms-low = b .rooms-low; stored = b .stored };
+    holds-still = k;
+    records-more = b .records-more;
+    frames-more = omega (arith, b .frames-more, serial-next);
+  }
 
-  pub call-follows : Ended mended (callTurn t (indexOf t) cs ks s (call q budget args))
-  unfolding callTurn
-  call-follows = rw within-is (ending mended (runFrom t (indexOf t) budget cells first) (subst (λ (v : MState). Ends t budget first (runFrom t (indexOf t) budget cells first) (mgo t (indexOf t) budget v)) view-begins (run-follows t J budget cells first begins)))
+  -- it stopped in state z, and what lasts is in the cells `es` and the state w
+  stop-ends : (same : Bool) (m : MState) (k : ℕ) (ds es : List Operand) (z w : State) → EndOf t ds z (mend m (mstopped k)) → After budget first ds z → (w .stop ≡ z .stop) × (w .procedure ≡ z .procedure) × (w .at ≡ z .at) × (w .records ≡ z .records) × (w .frames ≡ z .frames)
+      → roomsIn es ≡ roomsIn cs → entriesIn es (w .entries) ≡ entriesIn cs (s .entries) → Lasting es w → Holds ks es w → Ending same (mend m (mstopped k)) es w
+  unfolding lineOf endLine
+  stop-ends same m k ds es z w (h, no-done, no-broken, here) b (ws, wp, wa, wr, wf) rooms entries lasting holds = record {
+    base-is = subst (λ (v : MState). mafter (baseIn cs s) (mend v (mstopped k)) ≡ baseIn es w) (sym here) (rw (rooms, entries, wr, wf));
+    line-is = λ i. rw (ws, wp, wa, ne-eqb (z .stop) done (λ e. no-done (sym h ∙ e)), ne-eqb (z .stop) broken (λ e. no-broken (sym h ∙ e)), h, here);
+    lasting = lasting;
+    holds-still = λ e. holds;
+    records-more = omega (arith, b .records-more, wr);
+    frames-more = omega (arith, b .frames-more, serial-next, wf);
+  }
+
+  ending : (same : Bool) (e : MEnd) (turn : Turning) → (same ≡ true → Untouched cells first turn) → Ends t budget first turn e → Ended same e (restoredTo ks first same turn)
+  ending true (mend m (mfinished xs v)) (after z ds) u (h, b) = done-ends true m xs v ds z h b (λ e. holds-left ds z (u refl))
+  ending false (mend m (mfinished xs (mstate f fs rooms recs es n))) (after z ds) u (h, b) =
+      rw (eq-eqb (z .stop) done (h .0)) (done-ends false m xs (mstate f fs rooms recs es n) ds z h b (rw (eq-eqb (z .stop) done (h .0)) (λ e. absurd (true≢false (sym e)))))
+  ending true (mend m (mstopped k)) (after z ds) u (h, b) =
+      stop-ends true m k ds ds z z h b (refl, refl, refl, refl, refl) (rooms-left ds z (u refl)) (entries-left ds z (u refl)) (record { whole = b .whole; tidy = b .tidy; rooms-low = b .rooms-low; stored = b .stored }) (holds-left ds z (u refl))
+  ending false (mend m (mstopped k)) (after z ds) u (h, b) =
+      rw (ne-eqb (z .stop) done (λ e. h .1 (sym (h .0) ∙ e)))
+      (stop-ends false m k ds (restoredIn ds ks z first) z (restored z first) h b (refl, refl, refl, refl, refl) (rooms-again ds z b) (entries-again ds z b) (lasting-again ds z b) (holds-again ds z b))
+  ending same (mend m (mnext v)) (after z ds) u (h, b) = absurd h
+  ending same (mend m mbroken) (after z ds) u (h, b) = absurd h
+
+  pub call-follows : Ended (sameCall t (indexOf t) cs s (call q budget args)) mended (callTurn t (indexOf t) cs ks s (call q budget args))
+  unfolding callTurn sameCall
+  call-follows = rw within-is (ending (sameFrom t (indexOf t) budget cells first) mended (runFrom t (indexOf t) budget cells first) (run-untouched t J budget cells first begins)
+      (subst (λ (v : MState). Ends t budget first (runFrom t (indexOf t) budget cells first) (mgo t (indexOf t) budget v)) view-begins (run-follows t J budget cells first begins)))

@@ -1,6 +1,6 @@
 -- A list of calls by the interpreter's account, for any table, index and list.
 use Prim.Native.Nat.{ℕ, _+_, _-_}
-use mathlib.Core.Bool.{cond}
+use mathlib.Core.Bool.{Bool, false, cond}
 use mathlib.Core.List.{List, [], _∷_, _++_, map}
 use lib.Dec.{eqb, leb}
 use lib.ListN.{getD, take, replicate}
@@ -17,7 +17,7 @@ use Rattle.state.specs.Layout.{allCells}
 use Rattle.machine.specs.Lists.{mentryLines}
 use Rattle.machine.specs.Views.{roomsIn, entriesIn}
 use Rattle.frame.specs.Turning.{Turning, after, done, broken}
-use Rattle.interpreter.specs.Calls.{keptOf, callTurn}
+use Rattle.interpreter.specs.Calls.{keptSince, sameRestored, callTurn, sameCall}
 
 -- the results of a call that is done: the k top operands of its first frame, at most four
 abbrev pub resultsIn : List Operand → State → ℕ → List ℕ
@@ -55,10 +55,11 @@ lineOf ix i cs s =
 
 -- in a table with this index
 module _ (t : List ℕ) (ix : Index) where
-  -- the text from call i on
-  unfoldable pub textFrom : ℕ → List Call → List Operand → List Operand → State → List ℕ
-  textFrom i [] cs ks s = storeText cs s
-  textFrom i (c ∷ calls) cs ks s = onTurn (callTurn t ix cs ks s c) λ (ds : List Operand) (z : State). lineOf ix i ds z ++ textFrom (i + 1) calls ds (keptOf ks cs s) z
+  -- the text from call i on; `same`: entries and rooms are those that are kept
+  unfoldable pub textFrom : ℕ → List Call → Bool → List Operand → List Operand → State → List ℕ
+  textFrom i [] same cs ks s = storeText cs s
+  textFrom i (c ∷ calls) same cs ks s = onTurn (callTurn t ix cs (keptSince same ks cs s) s c) λ (ds : List Operand) (z : State).
+      lineOf ix i ds z ++ textFrom (i + 1) calls (sameRestored (sameCall t ix cs s c) (z .stop)) ds (keptSince same ks cs s) z
 
   unfoldable pub textIn : List ℕ → List ℕ
-  textIn l = textFrom 0 (callsOf l) allEmpty allEmpty start
+  textIn l = textFrom 0 (callsOf l) false allEmpty allEmpty start

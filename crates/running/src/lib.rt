@@ -6,6 +6,7 @@ ghost use Rattle.semantics.specs.Run.{runOf};
 ghost use Rattle.text.specs.Placing.{placed};
 ghost use Rattle.state.specs.Cells.{cellsOf};
 ghost use Rattle.running.specs.Lists.{resultsIn, endLine, lineOf, textIn};
+use interpreter::Ran;
 use state::frames::State;
 use state::stops;
 use table::Verdict;
@@ -80,21 +81,24 @@ fn run_calls(table: &[u8], list: &[u8], index: Index, text: &mut [u8]) -> usize
     let rows = list.len() / format::ROW_BYTES;
     let mut cells = [0u64; 3648];
     let mut saved = [0u64; 3648];
-    let mut s = State::START;
+    let mut last = Ran {
+        state: State::START,
+        same: false,
+    };
     let mut end: usize = 0;
     let mut call: usize = 0;
     let mut i: usize = 0;
     while i < rows {
         if table::kind_at(list, i) == calls::CALL {
-            s = interpreter::call(s, &mut cells, &mut saved, table, index, list, i);
-            end = put_call(text, end, call, s, &cells, index);
+            last = interpreter::call(last, &mut cells, &mut saved, table, index, list, i);
+            end = put_call(text, end, call, last.state, &cells, index);
             call += 1;
             i += 1;
         } else {
             i += 1;
         }
     }
-    store_text::put_entries(text, end, &cells, s.entries)
+    store_text::put_entries(text, end, &cells, last.state.entries)
 }
 
 // Judges the table, then the list, then the buffer, and runs the calls: a refusal, or the length of the text, which stands at the buffer's start.
