@@ -12,4 +12,5 @@ pub mod row_faults;
 pub mod runs;
 pub mod structured;
 pub mod tables;
+pub mod view_faults;
 pub mod wild;

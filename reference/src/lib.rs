@@ -43,8 +43,8 @@ pub fn type_check(table: &[u8]) -> Result<Program, Refusal> {
     let rows = row::read_rows(table);
     let outline = shape::check_rows(&rows)?;
     names::check_names(&rows, &outline)?;
-    let program = Program::decode(&rows, &outline);
-    operands::check_operands(&program)?;
+    let mut program = Program::decode(&rows, &outline);
+    program.view_on_top = operands::check_operands(&program)?;
     Ok(program)
 }
 

@@ -15,7 +15,14 @@ pub enum Value {
     Number(u64),
     /// The record in this room.
     Record(u8),
-    Ref(Reference),
+    Ref(Reference, Access),
+}
+
+/// Whether numbers may be written through a reference. Freeze changes nothing else about it.
+#[derive(Clone, Copy, Debug, PartialEq, Eq)]
+pub enum Access {
+    Writable,
+    ReadOnly,
 }
 
 #[derive(Clone, Copy, Debug, PartialEq, Eq)]
@@ -229,7 +236,8 @@ impl<'p> Machine<'p> {
         }
     }
 
-    #[inline]
+    /// Inlined always: the loop around it is compiled once for each `Watch`.
+    #[inline(always)]
     fn step(&mut self) -> Result<Step, Stop> {
         let frame = self.frames.last_mut().expect("a call is running");
         let instr = self.program.code[frame.next];
@@ -269,7 +277,7 @@ impl<'p> Machine<'p> {
     }
 
     /// An instruction after which the next row comes up.
-    #[inline]
+    #[inline(always)]
     fn work(&mut self, instr: Instr) -> Result<(), Stop> {
         match instr {
             Instr::Pop => {
@@ -307,13 +315,17 @@ impl<'p> Machine<'p> {
             }
             Instr::BorrowGlobal(of) => {
                 let place = self.pop_key(of).map_err(|_| Stop::NoSuchKey)?;
-                self.push_record_ref(self.memory.store[place].room);
+                self.push_record_ref(self.memory.store[place].room, Access::Writable);
             }
             Instr::Exists(of) => {
                 let exists = self.pop_key(of).is_ok();
                 self.operands.push(Value::Number(u64::from(exists)));
             }
             Instr::Op(arith) => self.operate(arith)?,
+            Instr::Freeze => match self.operands.last_mut() {
+                Some(Value::Ref(_, access)) => *access = Access::ReadOnly,
+                _ => unreachable!("{JUDGED}"),
+            },
             Instr::Ret | Instr::Branch(_) | Instr::BranchCond(_) | Instr::Call(_) => unreachable!("done by step"),
         }
         Ok(())
@@ -344,7 +356,7 @@ impl<'p> Machine<'p> {
         };
         let depth = (self.frames.len() - 1) as u8;
         let reference = Reference::Local { depth, local, of, frame: frame.identity };
-        self.operands.push(Value::Ref(reference));
+        self.operands.push(Value::Ref(reference, Access::Writable));
     }
 
     /// The local that a reference names, if its frame has not returned.
@@ -367,47 +379,52 @@ impl<'p> Machine<'p> {
     /// Takes a reference to a number and finds that number.
     fn number_behind(&mut self) -> Result<&mut u64, Stop> {
         match self.pop() {
-            Value::Ref(Reference::Local { depth, local, frame, .. }) => match self.named_local(depth, local, frame)? {
-                Some(Value::Number(number)) => Ok(number),
-                None => Err(Stop::Stale),
-                Some(_) => unreachable!("{JUDGED}"),
-            },
-            Value::Ref(Reference::Field { room, field, record, .. }) => {
+            Value::Ref(Reference::Local { depth, local, frame, .. }, _) => {
+                match self.named_local(depth, local, frame)? {
+                    Some(Value::Number(number)) => Ok(number),
+                    None => Err(Stop::Stale),
+                    Some(_) => unreachable!("{JUDGED}"),
+                }
+            }
+            Value::Ref(Reference::Field { room, field, record, .. }, _) => {
                 Ok(&mut self.named_room(room, record)?.fields[usize::from(field)])
             }
             _ => unreachable!("{JUDGED}"),
         }
     }
 
-    /// Takes a reference to a record and finds the room of that record.
-    fn room_behind(&mut self) -> Result<u8, Stop> {
+    /// Takes a reference to a record and finds the room of that record; tells the reference's access too.
+    fn room_behind(&mut self) -> Result<(u8, Access), Stop> {
         match self.pop() {
-            Value::Ref(Reference::Local { depth, local, frame, .. }) => {
+            Value::Ref(Reference::Local { depth, local, frame, .. }, access) => {
                 match *self.named_local(depth, local, frame)? {
-                    Some(Value::Record(room)) => Ok(room),
+                    Some(Value::Record(room)) => Ok((room, access)),
                     None => Err(Stop::Stale),
                     Some(_) => unreachable!("{JUDGED}"),
                 }
             }
-            Value::Ref(Reference::Record { room, record, .. }) => self.named_room(room, record).map(|_| room),
+            Value::Ref(Reference::Record { room, record, .. }, access) => {
+                self.named_room(room, record).map(|_| (room, access))
+            }
             _ => unreachable!("{JUDGED}"),
         }
     }
 
-    fn push_record_ref(&mut self, room: u8) {
+    fn push_record_ref(&mut self, room: u8, access: Access) {
         let Room { record, of, .. } = self.memory.rooms[usize::from(room)];
         let record = record.expect("the room holds a record");
-        self.operands.push(Value::Ref(Reference::Record { room, of, record }));
+        self.operands.push(Value::Ref(Reference::Record { room, of, record }, access));
     }
 
+    /// What is borrowed through a read-only reference is read-only.
     fn borrow_field(&mut self, of: u8, field: u8) -> Result<(), Stop> {
-        let room = self.room_behind()?;
+        let (room, access) = self.room_behind()?;
         let inside = &self.memory.rooms[usize::from(room)];
         if self.program.fields(of)[usize::from(field)].sort.is_record() {
-            self.push_record_ref(inside.fields[usize::from(field)] as u8);
+            self.push_record_ref(inside.fields[usize::from(field)] as u8, access);
         } else {
             let record = inside.record.expect("the room holds a record");
-            self.operands.push(Value::Ref(Reference::Field { room, of, field, record }));
+            self.operands.push(Value::Ref(Reference::Field { room, of, field, record }, access));
         }
         Ok(())
     }
@@ -423,7 +440,7 @@ impl<'p> Machine<'p> {
             *field = match value {
                 Value::Number(number) => number,
                 Value::Record(room) => u64::from(room),
-                Value::Ref(_) => unreachable!("{JUDGED}"),
+                Value::Ref(..) => unreachable!("{JUDGED}"),
             };
         }
         self.records_made += 1;
@@ -543,8 +560,16 @@ impl Machine<'_> {
         match value {
             Value::Number(_) => Sort::Number,
             Value::Record(room) => Sort::Record(self.memory.rooms[usize::from(room)].of),
-            Value::Ref(Reference::Local { of: None, .. } | Reference::Field { .. }) => Sort::NumberRef,
-            Value::Ref(Reference::Local { of: Some(of), .. } | Reference::Record { of, .. }) => Sort::RecordRef(of),
+            Value::Ref(reference, access) => {
+                let writable = match reference {
+                    Reference::Local { of: None, .. } | Reference::Field { .. } => Sort::NumberRef,
+                    Reference::Local { of: Some(of), .. } | Reference::Record { of, .. } => Sort::RecordRef(of),
+                };
+                match access {
+                    Access::Writable => writable,
+                    Access::ReadOnly => writable.frozen().expect("a reference can be frozen"),
+                }
+            }
         }
     }
 }

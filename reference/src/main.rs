@@ -1,6 +1,8 @@
 //! The program `reference`: see README.md for its commands.
 
 use reference::gen::{runs, tables};
+use reference::program::Program;
+use reference::row::{kind, op, read_rows};
 use reference::Refusal;
 use std::collections::BTreeMap;
 use std::io::Write;
@@ -113,22 +115,46 @@ fn made_runs(seed: u64, count: u64, dir: &str) -> Result<(), String> {
 
 /// How often each verdict comes among made tables, and each refusal and call's end among made runs.
 fn histogram(seed: u64, count: u64) -> Result<(), String> {
+    print(format!("{count} tables\n{}{count} runs\n{}", table_lines(seed, count), run_lines(seed, count)).as_bytes())
+}
+
+fn table_lines(seed: u64, count: u64) -> String {
     let mut verdicts: BTreeMap<u32, u64> = BTreeMap::new();
+    let (mut freezing, mut showing) = (0, 0);
+    for number in 0..count {
+        let table = tables::table(seed, number);
+        let program = reference::admit(&table);
+        freezing += u64::from(read_rows(&table).iter().any(|row| row.kind == kind::INSTRUCTION && row.a == op::FREEZE));
+        showing += u64::from(program.as_ref().is_ok_and(shows));
+        *verdicts.entry(program.map_or_else(|refusal| refusal.0, |_| 0)).or_default() += 1;
+    }
+    let mut lines = String::new();
+    for (number, times) in verdicts {
+        let what = if number == 0 { "accepted".to_string() } else { format!("refused {number}") };
+        lines.push_str(&format!("  {what}: {times}\n"));
+    }
+    lines.push_str(&format!("  with Freeze: {freezing}\n"));
+    lines.push_str(&format!("  accepted with a read-only parameter or result: {showing}\n"));
+    lines
+}
+
+/// Whether a procedure has a read-only parameter or result.
+fn shows(program: &Program) -> bool {
+    program
+        .procedures
+        .iter()
+        .any(|one| program.params(one).iter().chain(program.results(one)).any(|sort| sort.is_view()))
+}
+
+fn run_lines(seed: u64, count: u64) -> String {
     let mut ends: BTreeMap<(u8, u32), u64> = BTreeMap::new();
     for number in 0..count {
-        let verdict = reference::judge(&tables::table(seed, number)).map_or_else(|refusal| refusal.0, |_| 0);
-        *verdicts.entry(verdict).or_default() += 1;
         let case = runs::case(seed, number);
         for end in call_ends(reference::run(&case.table, &case.list, case.text_len)) {
             *ends.entry(end).or_default() += 1;
         }
     }
-    let mut lines = format!("{count} tables\n");
-    for (number, times) in verdicts {
-        let what = if number == 0 { "accepted".to_string() } else { format!("refused {number}") };
-        lines.push_str(&format!("  {what}: {times}\n"));
-    }
-    lines.push_str(&format!("{count} runs\n"));
+    let mut lines = String::new();
     for ((_, number), times) in ends {
         let what = match number {
             0 => "run through".to_string(),
@@ -138,7 +164,7 @@ fn histogram(seed: u64, count: u64) -> Result<(), String> {
         };
         lines.push_str(&format!("  {what}: {times}\n"));
     }
-    print(lines.as_bytes())
+    lines
 }
 
 /// The refusal of a run, or 0 and for each call 30 (done) or its stop.

@@ -1,6 +1,6 @@
 //! The pass "names": 5 (a procedure without an end) and 6 (a name of nothing).
 
-use crate::row::{kind, op, Row};
+use crate::row::{kind, op, sort, Row};
 use crate::shape::{Outline, ProcedureOutline};
 use crate::Refusal;
 
@@ -22,7 +22,7 @@ pub fn check_names(rows: &[Row], outline: &Outline) -> Result<(), Refusal> {
                 procedures += 1;
                 true
             }
-            kind::LOCAL | kind::RESULT => row.a % 2 == 0 || usize::from(row.b) < outline.types.len(),
+            kind::LOCAL | kind::RESULT => !sort::uses_b(row.a) || usize::from(row.b) < outline.types.len(),
             kind::INSTRUCTION => names_something(row, outline, &outline.procedures[procedures - 1]),
             _ => true,
         };

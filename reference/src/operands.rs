@@ -4,18 +4,21 @@ use crate::program::{Instr, Procedure, Program, Sort};
 use crate::row::limit;
 use crate::Refusal;
 
-pub fn check_operands(program: &Program) -> Result<(), Refusal> {
+/// Hands on `Program::view_on_top`.
+pub fn check_operands(program: &Program) -> Result<Vec<bool>, Refusal> {
     let mut stack = Vec::with_capacity(2 * limit::OPERANDS);
+    let mut view_on_top = Vec::with_capacity(program.code.len());
     for procedure in &program.procedures {
         let starts = block_starts(program.code(procedure));
         let mut typing = Typing { program, procedure, stack: &mut stack };
         for (place, &instr) in program.code(procedure).iter().enumerate() {
+            view_on_top.push(matches!(typing.stack.last(), Some(Sort::RecordView(_))));
             if let Some(number) = typing.fault(instr, starts[place + 1]) {
                 return Err((number, procedure.code_row + place));
             }
         }
     }
-    Ok(())
+    Ok(view_on_top)
 }
 
 /// For each instruction, and for the place after the last: whether a block starts (or the code ends) there.
@@ -68,11 +71,18 @@ impl Typing<'_, '_> {
             Instr::CpLoc(local) => self.give(&[self.local(local)]),
             Instr::StLoc(local) => self.take(self.local(local)),
             Instr::BorrowLoc(local) => self.local(local).borrowed().and_then(|sort| self.give(&[sort])),
-            Instr::ReadRef => self.take(Sort::NumberRef).and_then(|()| self.give(&[Sort::Number])),
+            Instr::ReadRef => match self.stack.pop()? {
+                Sort::NumberRef | Sort::NumberView => self.give(&[Sort::Number]),
+                _ => None,
+            },
             Instr::WriteRef => self.take(Sort::NumberRef).and_then(|()| self.take(Sort::Number)),
             Instr::BorrowFld { of, field } => {
                 let sort = program.fields(of)[usize::from(field)].sort.borrowed()?;
-                self.take(Sort::RecordRef(of)).and_then(|()| self.give(&[sort]))
+                match self.stack.pop()? {
+                    Sort::RecordRef(have) if have == of => self.give(&[sort]),
+                    Sort::RecordView(have) if have == of => self.give(&[sort.frozen()?]),
+                    _ => None,
+                }
             }
             Instr::Pack(of) => {
                 self.take_all(program.fields(of).iter().map(|field| field.sort))?;
@@ -96,6 +106,10 @@ impl Typing<'_, '_> {
             Instr::Branch(_) => Some(()),
             Instr::BranchCond(_) => self.take(Sort::Number),
             Instr::Op(_) => self.take(Sort::Number).and_then(|()| self.swap_number(Sort::Number)),
+            Instr::Freeze => {
+                let sort = self.stack.pop()?.frozen()?;
+                self.give(&[sort])
+            }
         }
     }
 

@@ -1,6 +1,6 @@
 //! A table decoded once, after the names pass: every number in it names something.
 
-use crate::row::{kind, op, Row};
+use crate::row::{kind, op, sort, Row};
 use crate::shape::Outline;
 use std::ops::Range;
 
@@ -8,17 +8,38 @@ use std::ops::Range;
 pub enum Sort {
     Number,
     Record(u8),
+    /// A writable reference to a number.
     NumberRef,
+    /// A writable reference to a record.
     RecordRef(u8),
+    /// A read-only reference to a number.
+    NumberView,
+    /// A read-only reference to a record.
+    RecordView(u8),
 }
 
 impl Sort {
     fn new(number: u8, of: u16) -> Sort {
+        let of = of as u8;
         match number {
-            0 => Sort::Number,
-            1 => Sort::Record(of as u8),
-            2 => Sort::NumberRef,
-            _ => Sort::RecordRef(of as u8),
+            sort::NUMBER => Sort::Number,
+            sort::RECORD => Sort::Record(of),
+            sort::NUMBER_REF => Sort::NumberRef,
+            sort::RECORD_REF => Sort::RecordRef(of),
+            sort::NUMBER_VIEW => Sort::NumberView,
+            _ => Sort::RecordView(of),
+        }
+    }
+
+    /// A and B of a row of this sort.
+    pub fn bytes(self) -> (u8, u16) {
+        match self {
+            Sort::Number => (sort::NUMBER, 0),
+            Sort::Record(of) => (sort::RECORD, of.into()),
+            Sort::NumberRef => (sort::NUMBER_REF, 0),
+            Sort::RecordRef(of) => (sort::RECORD_REF, of.into()),
+            Sort::NumberView => (sort::NUMBER_VIEW, 0),
+            Sort::RecordView(of) => (sort::RECORD_VIEW, of.into()),
         }
     }
 
@@ -26,12 +47,29 @@ impl Sort {
         matches!(self, Sort::Record(_))
     }
 
-    /// The sort of a reference to a place of this sort.
+    pub fn is_view(self) -> bool {
+        matches!(self, Sort::NumberView | Sort::RecordView(_))
+    }
+
+    pub fn is_reference(self) -> bool {
+        self.borrowed().is_none()
+    }
+
+    /// The sort of a writable reference to a place of this sort.
     pub fn borrowed(self) -> Option<Sort> {
         match self {
             Sort::Number => Some(Sort::NumberRef),
             Sort::Record(of) => Some(Sort::RecordRef(of)),
-            Sort::NumberRef | Sort::RecordRef(_) => None,
+            _ => None,
+        }
+    }
+
+    /// What Freeze makes of a writable reference.
+    pub fn frozen(self) -> Option<Sort> {
+        match self {
+            Sort::NumberRef => Some(Sort::NumberView),
+            Sort::RecordRef(of) => Some(Sort::RecordView(of)),
+            _ => None,
         }
     }
 }
@@ -66,6 +104,7 @@ pub enum Instr {
     Branch(u16),
     BranchCond(u16),
     Op(Arith),
+    Freeze,
 }
 
 impl Instr {
@@ -91,6 +130,7 @@ impl Instr {
             op::RET => Instr::Ret,
             op::BRANCH => Instr::Branch(row.b),
             op::BRANCH_COND => Instr::BranchCond(row.b),
+            op::FREEZE => Instr::Freeze,
             _ => Instr::Op(match row.b {
                 0 => Arith::Add,
                 1 => Arith::Subtract,
@@ -141,6 +181,9 @@ pub struct Program {
     pub types: Vec<RecordType>,
     pub procedures: Vec<Procedure>,
     pub code: Vec<Instr>,
+    /// Per instruction of `code`: whether a read-only reference to a record is on top when it comes up. The operands
+    /// pass tells.
+    pub view_on_top: Vec<bool>,
     fields: Vec<Field>,
     sorts: Vec<Sort>,
 }
@@ -153,6 +196,7 @@ impl Program {
             types: Vec::with_capacity(outline.types.len()),
             procedures: Vec::with_capacity(outline.procedures.len()),
             code: Vec::with_capacity(rows.len()),
+            view_on_top: Vec::new(),
             fields: Vec::new(),
             sorts: Vec::new(),
         };
@@ -230,7 +274,7 @@ impl Program {
         match instr {
             Instr::Pop | Instr::StLoc(_) | Instr::BranchCond(_) => (1, 0),
             Instr::LoadConst(_) | Instr::MvLoc(_) | Instr::CpLoc(_) | Instr::BorrowLoc(_) => (0, 1),
-            Instr::ReadRef | Instr::BorrowFld { .. } => (1, 1),
+            Instr::ReadRef | Instr::BorrowFld { .. } | Instr::Freeze => (1, 1),
             Instr::MoveFrom(_) | Instr::BorrowGlobal(_) | Instr::Exists(_) => (1, 1),
             Instr::WriteRef | Instr::MoveTo(_) => (2, 0),
             Instr::Op(_) => (2, 1),

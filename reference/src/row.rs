@@ -54,6 +54,22 @@ pub mod kind {
     pub const INSTRUCTION: u8 = 7;
 }
 
+/// Sorts, the A of local and result rows. Fields have the first two only.
+pub mod sort {
+    pub const NUMBER: u8 = 0;
+    pub const RECORD: u8 = 1;
+    pub const NUMBER_REF: u8 = 2;
+    pub const RECORD_REF: u8 = 3;
+    pub const NUMBER_VIEW: u8 = 4;
+    pub const RECORD_VIEW: u8 = 5;
+    pub const LAST: u8 = RECORD_VIEW;
+
+    /// Whether B names a type. With a sort that is not allowed it counts as used.
+    pub fn uses_b(sort: u8) -> bool {
+        matches!(sort, RECORD | RECORD_REF | RECORD_VIEW) || sort > LAST
+    }
+}
+
 /// Opcodes, the A of an instruction row.
 pub mod op {
     pub const POP: u8 = 0;
@@ -76,6 +92,18 @@ pub mod op {
     pub const BRANCH: u8 = 17;
     pub const BRANCH_COND: u8 = 18;
     pub const OP: u8 = 19;
+    pub const FREEZE: u8 = 20;
+    pub const LAST: u8 = FREEZE;
+
+    /// Whether B is used. With an opcode that is not allowed it counts as used.
+    pub fn uses_b(opcode: u8) -> bool {
+        !matches!(opcode, POP | LOAD_CONST | READ_REF | WRITE_REF | RET | FREEZE)
+    }
+
+    /// Whether D is used, in the same way.
+    pub fn uses_d(opcode: u8) -> bool {
+        opcode == LOAD_CONST || opcode > LAST
+    }
 }
 
 /// Limits of document 01.

@@ -1,6 +1,6 @@
 //! The passes "length" (1) and "rows" (2, 3, 4).
 
-use crate::row::{kind, limit, op, Row, ROW_BYTES};
+use crate::row::{kind, limit, op, sort, Row, ROW_BYTES};
 use crate::Refusal;
 
 pub fn check_length(bytes: &[u8]) -> Result<(), Refusal> {
@@ -144,20 +144,12 @@ impl Outline {
     }
 }
 
-/// Sorts 1 and 3 name a type in B, sorts 0 and 2 leave B zero.
-fn sort_allowed(sort: u8, b: u16) -> bool {
-    match sort {
-        0 | 2 => b == 0,
-        1 | 3 => true,
-        _ => false,
-    }
+fn sort_allowed(a: u8, b: u16) -> bool {
+    a <= sort::LAST && (sort::uses_b(a) || b == 0)
 }
 
 fn instruction_allowed(row: &Row) -> bool {
-    let uses_b = match row.a {
-        op::POP | op::LOAD_CONST | op::READ_REF | op::WRITE_REF | op::RET => false,
-        0..=op::OP => true,
-        _ => return false,
-    };
-    (uses_b || row.b == 0) && row.c == 0 && (row.a == op::LOAD_CONST || row.d == 0) && (row.a != op::OP || row.b <= 3)
+    let Row { a, b, c, d, .. } = *row;
+    let unused_zero = (op::uses_b(a) || b == 0) && c == 0 && (op::uses_d(a) || d == 0);
+    a <= op::LAST && (a != op::OP || b <= 3) && unused_zero
 }

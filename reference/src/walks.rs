@@ -108,8 +108,13 @@ fn low_bits(count: usize) -> u32 {
     (1 << count) - 1
 }
 
-fn marks(program: &Program, instr: Instr) -> bool {
-    matches!(instr, Instr::BorrowFld { of, field } if program.is_guarded(of, field))
+/// Whether the instruction makes a marked reference: BorrowFld of a guarded field through a writable one.
+fn marks(program: &Program, inside: &Procedure, place: usize) -> bool {
+    let at = inside.code.start + place;
+    match program.code[at] {
+        Instr::BorrowFld { of, field } => program.is_guarded(of, field) && !program.view_on_top[at],
+        _ => false,
+    }
 }
 
 /// Where walks go on after the instruction at `place`: to the next row, to a target, both or nowhere.
@@ -130,11 +135,12 @@ struct Walk {
 }
 
 impl Walk {
-    fn step(mut self, program: &Program, inside: &Procedure, instr: Instr) -> Walk {
+    fn step(mut self, program: &Program, inside: &Procedure, place: usize) -> Walk {
+        let instr = program.code(inside)[place];
         let (takes, gives) = program.arity(inside, instr);
         let given_mark = match instr {
             Instr::MvLoc(local) | Instr::CpLoc(local) => self.marked & bit(local) != 0,
-            _ => marks(program, instr),
+            _ => marks(program, inside, place),
         };
         match instr {
             Instr::MvLoc(local) => {
@@ -183,7 +189,7 @@ pub fn joint(program: &Program, procedure: &Procedure, most: usize) -> Option<Fa
     while let Some((mut place, mut walk)) = met.waiting.pop() {
         loop {
             note(&mut facts, place, walk, program.locals(procedure).len());
-            walk = walk.step(program, procedure, code[place]);
+            walk = walk.step(program, procedure, place);
             if starts[place + 1] {
                 break;
             }
@@ -227,7 +233,7 @@ pub fn places(program: &Program, procedure: &Procedure) -> Facts {
     }
     while let Some((place, token)) = search.waiting.pop() {
         let instr = code[place];
-        for after in moves(program, procedure, token, instr).into_iter().flatten() {
+        for after in moves(program, procedure, token, place).into_iter().flatten() {
             for next in ways_on(place, instr).into_iter().flatten() {
                 search.arrive(next, after);
             }
@@ -268,9 +274,10 @@ fn set(locals: &mut u16, local: u8) -> bool {
 }
 
 /// What the instruction makes of a token: nothing, one or two tokens at the next rows.
-fn moves(program: &Program, inside: &Procedure, token: Token, instr: Instr) -> [Option<Token>; 2] {
+fn moves(program: &Program, inside: &Procedure, token: Token, place: usize) -> [Option<Token>; 2] {
+    let instr = program.code(inside)[place];
     match (token, instr) {
-        (Token::Walk, _) if marks(program, instr) => [Some(token), Some(Token::MarkedOperand(0))],
+        (Token::Walk, _) if marks(program, inside, place) => [Some(token), Some(Token::MarkedOperand(0))],
         (Token::Empty(x), Instr::StLoc(y)) if x == y => [Some(Token::Full(x)), None],
         (Token::Full(x), Instr::MvLoc(y)) if x == y => [Some(Token::Empty(x)), None],
         (Token::Marked(x), Instr::StLoc(y)) if x == y => [None, None],

@@ -1,4 +1,4 @@
-//! The examples of document 01, written as bytes, and the example of the readings.
+//! The examples of document 01, written as bytes, the same with Freeze, and the example of the readings.
 
 mod common;
 
@@ -63,6 +63,76 @@ fn the_rows_by_name_are_those_bytes() {
         ret(),
     ];
     assert_eq!(write_rows(&rows), t());
+}
+
+/// Row of the opcode, byte by byte.
+fn instruction(opcode: u8) -> [u8; 16] {
+    let mut row = [0; 16];
+    (row[0], row[1]) = (7, opcode);
+    row
+}
+
+#[test]
+fn t_with_freeze() {
+    let mut rows = T.to_vec();
+    rows.insert(15, instruction(20));
+    // The result is still of sort 2.
+    assert_eq!(reference::judge(&rows.concat()), Err((7, 16)));
+    rows[12][1] = 4;
+    assert_eq!(reference::judge(&rows.concat()), Ok(17));
+    // Without Freeze a writable reference stands where a read-only one is asked.
+    rows.remove(15);
+    assert_eq!(reference::judge(&rows.concat()), Err((7, 15)));
+    // Frozen before BorrowFld, which then gives a read-only reference to the guarded number.
+    rows.insert(14, instruction(20));
+    assert_eq!(reference::judge(&rows.concat()), Ok(17));
+}
+
+#[test]
+fn t_with_freeze_and_write() {
+    let mut rows = T.to_vec();
+    rows.remove(12);
+    rows.insert(12, instruction(1));
+    // 12 LoadConst, 13 MvLoc, 14 BorrowFld, 15 WriteRef
+    rows.insert(15, instruction(7));
+    assert_eq!(reference::judge(&rows.concat()), Ok(17));
+    // With Freeze after BorrowFld, then before it.
+    let mut late = rows.clone();
+    late.insert(15, instruction(20));
+    assert_eq!(reference::judge(&late.concat()), Err((7, 16)));
+    rows.insert(14, instruction(20));
+    assert_eq!(reference::judge(&rows.concat()), Err((7, 16)));
+}
+
+/// Table S, then a public procedure that gives a frozen reference to the number under an address to the guest's.
+fn labels() -> Vec<Row> {
+    let mut rows = s_rows();
+    // Rows 10 to 18.
+    rows.extend([public(), param(N), result(N), mv(0), global(0), field(0, 0), freeze(), call(2), ret()]);
+    // Rows 19 to 25: the guest.
+    rows.extend([guest(), public(), param(V), result(N), mv(0), read(), ret()]);
+    rows
+}
+
+#[test]
+fn a_guest_reads_a_guarded_number() {
+    accepted(&labels());
+    let list = calls(&[(0, &[7]), (1, &[7])]);
+    prints(&labels(), &list, &["call 0 done", "call 1 done 500", "store 0 7 500"]);
+    // MvLoc, BorrowGlobal and BorrowFld spend a budget of 3; Freeze is row 16.
+    let list = [&calls(&[(0, &[7])])[..], &[call_of(1, 3), argument(7)]].concat();
+    prints(&labels(), &list, &["call 0 done", "call 1 stop 31 row 16", "store 0 7 500"]);
+}
+
+#[test]
+fn a_guest_gets_no_writable_reference_to_a_guarded_number() {
+    let mut rows = labels();
+    rows[21] = param(R);
+    refused(&rows, 7, 17);
+    rows.remove(16);
+    refused(&rows, 13, 16);
+    rows[20] = param(V);
+    refused(&rows, 7, 16);
 }
 
 #[test]

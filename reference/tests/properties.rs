@@ -1,8 +1,10 @@
 //! What holds of all made inputs.
 
+use reference::gen::plan::Plan;
 use reference::gen::rng::Rng;
-use reference::gen::{limits, runs, structured, tables, wild};
-use reference::machine::{Machine, Outcome, Reference, Value, Watch};
+use reference::gen::view_faults::{add_pair, Family, FAMILIES};
+use reference::gen::{faults, limits, runs, structured, tables, wild};
+use reference::machine::{Access, Machine, Outcome, Reference, Value, Watch};
 use reference::program::{Instr, Procedure, Program, Sort};
 use reference::walks::{joint, places};
 use std::collections::BTreeMap;
@@ -102,7 +104,11 @@ fn many_joint_states_are_judged_by_places() {
 #[derive(Default)]
 struct Guard {
     looked: u64,
+    /// Writable references to guarded fields.
     guarded_seen: u64,
+    /// Read-only ones that guests hold.
+    shown_to_guests: u64,
+    freezes: u64,
 }
 
 impl Watch for Guard {
@@ -112,19 +118,32 @@ impl Watch for Guard {
         let depth = machine.frame_count() - 1;
         let inside = program.procedure(machine.frame_procedure(depth));
         check_operands(machine, program, inside, depth);
+        self.freezes += u64::from(machine.upcoming() == Instr::Freeze);
         for depth in 0..machine.frame_count() {
             let module = program.procedure(machine.frame_procedure(depth)).module;
             let locals = machine.frame_locals(depth).iter().copied().flatten();
             for value in machine.frame_operands(depth).iter().copied().chain(locals) {
-                let Value::Ref(Reference::Field { of, field, .. }) = value else { continue };
-                if program.is_guarded(of, field) {
-                    self.guarded_seen += 1;
-                    assert!(program.is_trusted(module), "a guest holds a reference to a guarded field");
-                    assert_eq!(program.types[usize::from(of)].module, module);
-                }
+                self.look_at(program, module, value);
             }
         }
         assert!(machine.live_records() <= 128 && machine.store().len() <= 64 && machine.frame_count() <= 16);
+    }
+}
+
+impl Guard {
+    /// A value that a frame of the module holds.
+    fn look_at(&mut self, program: &Program, module: u8, value: Value) {
+        let Value::Ref(Reference::Field { of, field, .. }, access) = value else { return };
+        if !program.is_guarded(of, field) {
+            return;
+        }
+        if access == Access::Writable {
+            self.guarded_seen += 1;
+            assert!(program.is_trusted(module), "a guest holds a writable reference to a guarded field");
+            assert_eq!(program.types[usize::from(of)].module, module);
+        } else if !program.is_trusted(module) {
+            self.shown_to_guests += 1;
+        }
     }
 }
 
@@ -153,27 +172,33 @@ fn check_operands(machine: &Machine, program: &Program, inside: &Procedure, dept
     let takes = wanted.len();
     assert!(have.len() >= takes, "{instr:?} misses operands");
     for (have, wanted) in have[have.len() - takes..].iter().zip(wanted) {
-        let fits = wanted.map_or(!have.is_record(), |wanted| *have == wanted);
-        assert!(fits, "{instr:?} gets {have:?}");
+        assert!(wanted.contains(have), "{instr:?} gets {have:?}");
     }
 }
 
-/// The sorts that an instruction takes, the topmost last; Pop takes anything but a record.
-fn wanted(program: &Program, inside: &Procedure, instr: Instr) -> Vec<Option<Sort>> {
-    let number = Some(Sort::Number);
+/// The sorts that an instruction takes for each operand, the topmost last.
+fn wanted(program: &Program, inside: &Procedure, instr: Instr) -> Vec<Vec<Sort>> {
+    let number = vec![Sort::Number];
+    let each = |sorts: &[Sort]| sorts.iter().map(|&sort| vec![sort]).collect();
+    let of_each_type = |sort: fn(u8) -> Sort| (0..program.types.len()).map(move |of| sort(of as u8));
+    let writable = [Sort::NumberRef].into_iter().chain(of_each_type(Sort::RecordRef));
     match instr {
-        Instr::Pop => vec![None],
-        Instr::StLoc(local) => vec![Some(program.locals(inside)[usize::from(local)])],
-        Instr::ReadRef => vec![Some(Sort::NumberRef)],
-        Instr::WriteRef => vec![number, Some(Sort::NumberRef)],
-        Instr::BorrowFld { of, .. } => vec![Some(Sort::RecordRef(of))],
-        Instr::Pack(of) => program.fields(of).iter().map(|field| Some(field.sort)).collect(),
-        Instr::Unpack(of) => vec![Some(Sort::Record(of))],
-        Instr::MoveTo(of) => vec![Some(Sort::Record(of)), number],
+        Instr::Pop => {
+            let views = [Sort::NumberView].into_iter().chain(of_each_type(Sort::RecordView));
+            vec![[Sort::Number].into_iter().chain(writable).chain(views).collect()]
+        }
+        Instr::StLoc(local) => vec![vec![program.locals(inside)[usize::from(local)]]],
+        Instr::ReadRef => vec![vec![Sort::NumberRef, Sort::NumberView]],
+        Instr::WriteRef => vec![number, vec![Sort::NumberRef]],
+        Instr::BorrowFld { of, .. } => vec![vec![Sort::RecordRef(of), Sort::RecordView(of)]],
+        Instr::Pack(of) => program.fields(of).iter().map(|field| vec![field.sort]).collect(),
+        Instr::Unpack(of) => vec![vec![Sort::Record(of)]],
+        Instr::MoveTo(of) => vec![vec![Sort::Record(of)], number],
         Instr::MoveFrom(_) | Instr::BorrowGlobal(_) | Instr::Exists(_) | Instr::BranchCond(_) => vec![number],
-        Instr::Call(callee) => program.params(program.procedure(callee)).iter().copied().map(Some).collect(),
-        Instr::Ret => program.results(inside).iter().copied().map(Some).collect(),
-        Instr::Op(_) => vec![number, number],
+        Instr::Call(callee) => each(program.params(program.procedure(callee))),
+        Instr::Ret => each(program.results(inside)),
+        Instr::Op(_) => vec![number.clone(), number],
+        Instr::Freeze => vec![writable.collect()],
         _ => vec![],
     }
 }
@@ -229,6 +254,8 @@ fn accepted_tables_run_safely() {
     }
     assert!(guard.looked > 100_000, "{} states looked at", guard.looked);
     assert!(guard.guarded_seen > 1_000, "{} guarded references seen", guard.guarded_seen);
+    assert!(guard.shown_to_guests > 200, "{} read-only ones seen in guests", guard.shown_to_guests);
+    assert!(guard.freezes > 1_000, "{} times Freeze", guard.freezes);
     for end in [0, 31, 32, 33, 34, 35, 36, 37, 38] {
         assert!(ends.contains_key(&end), "no call ends with {end}");
     }
@@ -272,15 +299,48 @@ fn budgets_at_and_below_what_is_needed() {
 #[test]
 fn each_refusal_and_stop_comes_often() {
     let mut verdicts: BTreeMap<u32, usize> = BTreeMap::new();
-    let mut bytes = 0;
+    let (mut bytes, mut freezing) = (0, 0);
     for number in 0..2_000 {
         let table = tables::table(1, number);
         bytes += 4 + table.len();
-        *verdicts.entry(reference::judge(&table).err().map_or(0, |refusal| refusal.0)).or_default() += 1;
+        let program = reference::admit(&table);
+        freezing += usize::from(program.as_ref().is_ok_and(|program| program.code.contains(&Instr::Freeze)));
+        *verdicts.entry(program.err().map_or(0, |refusal| refusal.0)).or_default() += 1;
     }
+    assert!((200..verdicts[&0] - 100).contains(&freezing), "Freeze in {freezing} accepted tables");
     assert!((500..=900).contains(&verdicts[&0]), "{verdicts:?}");
     assert!((1..=14).all(|number| verdicts[&number] >= 30), "{verdicts:?}");
     assert!(bytes < 4_000_000, "{bytes} bytes");
+}
+
+#[test]
+fn faults_with_read_only_references_are_refused() {
+    for (number, family) in FAMILIES {
+        let verdict = |item| {
+            let table = faults::table_with_views(&mut Rng::stream(21, 0, item), family);
+            reference::judge(&table).err().map_or(0, |refusal| refusal.0)
+        };
+        let verdicts: Vec<u32> = (0..200).map(verdict).collect();
+        let hits = verdicts.iter().filter(|&&have| have == number).count();
+        let accepted = verdicts.iter().filter(|&&have| have == 0).count();
+        let pairs = matches!(family, Family::Given | Family::Returned);
+        assert!(hits >= if pairs { 80 } else { 160 }, "{family:?}: {hits}");
+        assert!(!pairs || accepted >= 60, "{family:?}: {accepted}");
+    }
+}
+
+#[test]
+fn leaks_are_mended_by_freeze() {
+    for number in [13, 14] {
+        for item in 0..200 {
+            let verdict = |frozen| {
+                let mut plan = Plan::default();
+                add_pair(&mut plan, &mut Rng::stream(22, number.into(), item), number, frozen);
+                reference::judge(&plan.bytes()).err().map(|refusal| refusal.0)
+            };
+            assert_eq!((verdict(true), verdict(false)), (None, Some(number)), "item {item}");
+        }
+    }
 }
 
 #[test]

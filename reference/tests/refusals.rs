@@ -162,24 +162,32 @@ fn unused_bytes() {
         check_bytes(&module, row, &[], used);
     }
     check_bytes(&module, public(), &[ret()], &[]);
-    let locals: [(Row, &[usize]); 4] = [
+    let locals: [(Row, &[usize]); 6] = [
         (local(N), &[4, 5, 6, 7]),
         (local(R), &[4, 5, 6, 7]),
+        (local(V), &[4, 5, 6, 7]),
         (local(rec(0)), &[2, 3, 4, 5, 6, 7]),
         (local(rec_ref(0)), &[2, 3, 4, 5, 6, 7]),
+        (local(rec_view(0)), &[2, 3, 4, 5, 6, 7]),
     ];
     for (row, used) in locals {
         check_bytes(&with(&module, &[public()]), row, &[ret()], used);
     }
-    let results: [(Row, &[usize]); 4] =
-        [(result(N), &[]), (result(R), &[]), (result(rec(0)), &[2, 3]), (result(rec_ref(0)), &[2, 3])];
+    let results: [(Row, &[usize]); 6] = [
+        (result(N), &[]),
+        (result(R), &[]),
+        (result(V), &[]),
+        (result(rec(0)), &[2, 3]),
+        (result(rec_ref(0)), &[2, 3]),
+        (result(rec_view(0)), &[2, 3]),
+    ];
     for (row, used) in results {
         check_bytes(&with(&module, &[public()]), row, &[jump(0)], used);
     }
-    for op in 0..=19 {
+    for op in 0..=20 {
         let used: &[usize] = match op {
             1 => &[8, 9, 10, 11, 12, 13, 14, 15],
-            0 | 6 | 7 | 16 => &[],
+            0 | 6 | 7 | 16 | 20 => &[],
             _ => &[2, 3],
         };
         check_bytes(&with(&module, &[public()]), instr(op, 0), &[ret()], used);
@@ -213,9 +221,9 @@ fn values_of_a() {
         allowed(0, &[guest(), Row { a, ..ty() }], 1);
         allowed(1, &[guest(), ty(), Row { a, ..num() }], 2);
         allowed(1, &[guest(), Row { a, ..public() }, ret()], 1);
-        allowed(3, &procedure(&[Row { a, ..local(N) }, ret()]), 2);
-        allowed(3, &procedure(&[Row { a, ..result(N) }, ret()]), 2);
-        allowed(19, &procedure(&[instr(a, 0), ret()]), 2);
+        allowed(5, &procedure(&[Row { a, ..local(N) }, ret()]), 2);
+        allowed(5, &procedure(&[Row { a, ..result(N) }, ret()]), 2);
+        allowed(20, &procedure(&[instr(a, 0), ret()]), 2);
     }
 }
 
@@ -262,7 +270,7 @@ fn ends() {
     refused(&procedure(&[]), 5, 1);
     refused(&procedure(&[local(N), result(N)]), 5, 1);
     refused(&procedure(&[ret(), public(), param(N), guest()]), 5, 3);
-    for op in (0..=19).filter(|&op| op != 16 && op != 17) {
+    for op in (0..=20).filter(|&op| op != 16 && op != 17) {
         refused(&procedure(&[ret(), instr(op, 0)]), 5, 1);
     }
     // The field of row 4 names no lower type, but the procedure above stands first.
@@ -286,7 +294,8 @@ fn field_types() {
 fn local_and_result_types() {
     // A type that stands below, in another module, exists.
     let later = [guest(), ty()];
-    for row in [local(rec(0)), local(rec_ref(0)), result(rec(0)), result(rec_ref(0))] {
+    let sorts = [rec(0), rec_ref(0), rec_view(0)];
+    for row in sorts.map(local).into_iter().chain(sorts.map(result)) {
         accepted(&with(&procedure(&[row, jump(0)]), &later));
         let next = Row { b: 1, ..row };
         refused(&with(&procedure(&[next, jump(0)]), &later), 6, 2);
@@ -336,7 +345,9 @@ fn named_procedures_and_targets() {
 
 #[test]
 fn missing_operands() {
-    for code in [pop(), read(), write(), exists(0), move_from(0), global(0), move_to(0), unpack(0), pack(0), arith(0)] {
+    for code in
+        [pop(), read(), write(), freeze(), exists(0), move_from(0), global(0), move_to(0), unpack(0), pack(0), arith(0)]
+    {
         refused(&[guest(), ty(), num(), public(), code, ret()], 7, 4);
     }
     refused(&procedure(&[jump_if(0), ret()]), 7, 2);
@@ -451,6 +462,132 @@ fn rows_that_no_walk_reaches_are_typed() {
     refused(&procedure(&[load(1), pop(), ret(), jump(1)]), 9, 2);
 }
 
+/// A guest with type 0 (a number) and type 1 (a record of type 0 and a number) and a procedure that has a local of
+/// each sort: 0 a number, 1 a writable and 2 a read-only reference to a number, 3 a record, 4 a writable and 5 a
+/// read-only reference to a record, all of type 0; 6 a writable and 7 a read-only reference to a record of type 1.
+/// The rows begin at row 15.
+fn all_sorts(rows: &[Row]) -> Vec<Row> {
+    let types = [guest(), ty(), num(), ty(), nested(0), num(), public()];
+    let sorts = [N, R, V, rec(0), rec_ref(0), rec_view(0), rec_ref(1), rec_view(1)];
+    with(&with(&types, &sorts.map(param)), rows)
+}
+
+#[test]
+fn read_only_operands() {
+    let code = [
+        // Freeze of both sorts, into locals, and what comes of them.
+        cp(1),
+        freeze(),
+        st(2),
+        cp(4),
+        freeze(),
+        st(5),
+        borrow(0),
+        freeze(),
+        read(),
+        st(0),
+        cp(2),
+        read(),
+        st(0),
+        borrow(3),
+        freeze(),
+        field(0, 0),
+        st(2),
+        // BorrowFld through read-only references gives read-only ones.
+        cp(7),
+        field(1, 0),
+        st(5),
+        cp(7),
+        field(1, 0),
+        field(0, 0),
+        st(2),
+        cp(7),
+        field(1, 1),
+        read(),
+        pop(),
+        // And through writable ones writable ones.
+        cp(6),
+        field(1, 0),
+        st(4),
+        cp(6),
+        field(1, 1),
+        st(1),
+        // Moving, copying and popping.
+        mv(2),
+        st(2),
+        cp(5),
+        pop(),
+        mv(5),
+        pop(),
+        jump(0),
+    ];
+    accepted(&all_sorts(&code));
+    // A local emptied is empty, whatever its sort.
+    refused(&all_sorts(&[mv(5), pop(), cp(5), pop(), jump(4)]), 11, 17);
+    refused(&all_sorts(&[mv(2), pop(), jump(0)]), 11, 15);
+}
+
+#[test]
+fn wrong_read_only_operands() {
+    let fault = |code: &[Row]| {
+        let rows = all_sorts(&with(code, &[ret()]));
+        refused(&rows, 7, 15 + code.len() - 1);
+    };
+    // WriteRef.
+    fault(&[load(1), cp(2), write()]);
+    fault(&[load(1), cp(1), freeze(), write()]);
+    fault(&[load(1), borrow(0), freeze(), write()]);
+    fault(&[load(1), cp(5), field(0, 0), write()]);
+    fault(&[load(1), cp(4), freeze(), field(0, 0), write()]);
+    fault(&[load(1), cp(7), field(1, 0), field(0, 0), write()]);
+    fault(&[cp(2), cp(1), write()]);
+    // Freeze.
+    fault(&[freeze()]);
+    fault(&[cp(0), freeze()]);
+    fault(&[cp(2), freeze()]);
+    fault(&[mv(3), freeze()]);
+    fault(&[cp(5), freeze()]);
+    fault(&[cp(1), freeze(), freeze()]);
+    fault(&[cp(4), freeze(), freeze()]);
+    // BorrowLoc.
+    for local in [1, 2, 4, 5, 6, 7] {
+        fault(&[borrow(local)]);
+    }
+    // StLoc: sorts and types do not stand in for each other.
+    for (given, asked) in [(2, 1), (1, 2), (5, 4), (4, 5), (7, 5), (5, 7), (7, 6), (2, 5), (5, 2), (2, 0), (0, 2)] {
+        fault(&[cp(given), st(asked)]);
+    }
+    fault(&[cp(1), freeze(), st(1)]);
+    fault(&[cp(4), freeze(), st(4)]);
+    fault(&[cp(7), field(1, 0), st(4)]);
+    fault(&[cp(6), field(1, 0), st(5)]);
+    fault(&[mv(3), st(5)]);
+    // Others that take something else.
+    fault(&[cp(5), read()]);
+    fault(&[cp(2), field(0, 0)]);
+    fault(&[cp(7), field(0, 0)]);
+    fault(&[cp(5), field(1, 0)]);
+    fault(&[cp(2), pack(0)]);
+    fault(&[cp(5), unpack(0)]);
+    fault(&[cp(5), load(1), move_to(0)]);
+    fault(&[cp(2), exists(0)]);
+    fault(&[cp(2), jump_if(0)]);
+    fault(&[load(1), cp(2), arith(ADD)]);
+}
+
+#[test]
+fn read_only_parameters_and_results() {
+    for (asked, fits, unfit) in [(R, 1, 2), (V, 2, 1), (rec_ref(0), 4, 5), (rec_view(0), 5, 4), (rec_view(0), 5, 7)] {
+        let callee = [private(), param(asked), ret()];
+        accepted(&all_sorts(&with(&[cp(fits), call(1), jump(0)], &callee)));
+        refused(&all_sorts(&with(&[cp(unfit), call(1), jump(0)], &callee)), 7, 16);
+        let gives = |local: u16| all_sorts(&[result(asked), cp(local), mv(3), unpack(0), pop(), ret()]);
+        accepted(&gives(fits));
+        // Ret is row 20.
+        refused(&gives(unfit), 7, 20);
+    }
+}
+
 // 8
 
 #[test]
@@ -551,6 +688,17 @@ fn types_of_other_modules() {
     accepted(&[guest(), ty(), guest(), ty(), nested(0)]);
     // Sorts come first on a row.
     refused(&with(&head, &[pack(0), jump(0)]), 7, 7);
+}
+
+#[test]
+fn types_of_other_modules_through_read_only_references() {
+    let head = [guest(), ty(), num(), guest(), public(), param(rec_ref(0)), param(rec_view(0))];
+    refused(&with(&head, &[cp(1), field(0, 0), pop(), ret()]), 10, 8);
+    refused(&with(&head, &[cp(0), freeze(), field(0, 0), pop(), ret()]), 10, 9);
+    // Freeze is for any module, and what it gives may be held and handed on.
+    let owner = [trusted(), ty(), guarded(), public(), param(rec_view(0)), result(V), mv(0), field(0, 0), ret()];
+    let other = [guest(), public(), param(rec_ref(0)), result(N), mv(0), freeze(), call(0), read(), ret()];
+    accepted(&with(&owner, &other));
 }
 
 #[test]
@@ -698,6 +846,57 @@ fn marked_references_returned() {
 }
 
 #[test]
+fn read_only_references_are_not_marked() {
+    // Procedure 1 gives a read-only reference back, 2 takes one to a record, 4 is a guest's and reads one.
+    let head = [public(), param(V), result(V), mv(0), ret(), public(), param(rec_view(0)), ret()];
+    let show = |codes: &[Row]| {
+        let head = bank(&with(&head, &[public(), param(rec_ref(0)), local(R), local(V), local(rec_view(0))]));
+        let guest = [guest(), public(), param(V), mv(0), read(), pop(), ret()];
+        with(&with(&head, &with(codes, &[ret()])), &guest)
+    };
+    // Instructions begin at row 20.
+    accepted(&show(&[cp(0), field(0, 0), freeze(), call(4)]));
+    accepted(&show(&[cp(0), freeze(), field(0, 0), call(4)]));
+    accepted(&show(&[cp(0), field(0, 0), st(1), cp(1), freeze(), st(2), cp(2), call(1), st(2), cp(2), call(4)]));
+    accepted(&show(&[cp(0), freeze(), st(3), cp(3), call(2), cp(3), field(0, 0), call(1), pop()]));
+    // The writable one beside it stays marked, and is under the operands that the call takes.
+    accepted(&show(&[cp(0), field(0, 0), cp(0), field(0, 0), freeze(), call(4), pop()]));
+    refused(&show(&[cp(0), field(0, 0), st(1), cp(1), freeze(), st(2), cp(1), call(0)]), 13, 27);
+    refused(&show(&[cp(0), freeze(), field(0, 0), call(4), cp(0), field(0, 0), call(0)]), 13, 26);
+    accepted(&show(&[cp(0), freeze(), field(0, 0), call(4), cp(0), field(0, 1), call(0)]));
+}
+
+#[test]
+fn read_only_references_are_returned() {
+    let give = |codes: &[Row]| {
+        bank(&with(&[public(), param(rec_ref(0)), param(rec_view(0)), local(R), result(V), result(rec_view(0))], codes))
+    };
+    // Instructions begin at row 13.
+    accepted(&give(&[cp(0), field(0, 0), freeze(), cp(0), freeze(), ret()]));
+    accepted(&give(&[cp(1), field(0, 0), cp(1), ret()]));
+    accepted(&give(&[cp(0), field(0, 0), st(2), cp(2), freeze(), mv(1), ret()]));
+    refused(&give(&[cp(0), field(0, 0), cp(0), freeze(), ret()]), 7, 17);
+    refused(&give(&[cp(1), field(0, 0), cp(0), ret()]), 7, 16);
+    // A writable one beside it.
+    let pair =
+        |codes: &[Row]| bank(&with(&[public(), param(rec_ref(0)), result(R), result(V)], &with(codes, &[ret()])));
+    // Instructions begin at row 11.
+    refused(&pair(&[cp(0), field(0, 0), cp(0), field(0, 0), freeze()]), 14, 16);
+    accepted(&pair(&[cp(0), field(0, 1), cp(0), field(0, 0), freeze()]));
+}
+
+#[test]
+fn freeze_takes_the_mark_on_every_walk() {
+    // 0 borrow 1; 1 st 2; 2 cp 1; 3 jump_if 7; 4 cp 0; 5 field 0; 6 st 2; 7 cp 2; 8 freeze; 9 ret
+    let head = [public(), param(rec_ref(0)), param(N), local(R)];
+    let code = [borrow(1), st(2), cp(1), jump_if(7), cp(0), field(0, 0), st(2), cp(2), freeze(), ret()];
+    accepted(&bank(&with(&with(&head, &[result(V)]), &code)));
+    // The same without Freeze: Ret is row 20.
+    let code = with(&code[..8], &[ret()]);
+    refused(&bank(&with(&with(&head, &[result(R)]), &code)), 14, 20);
+}
+
+#[test]
 fn some_walk_brings_the_mark() {
     // 0 borrow 1; 1 st 2; 2 cp 1; 3 jump_if 7; 4 cp 0; 5 field; 6 st 2; 7 load 1; 8 cp 2; 9 ret
     let rows = |number: u16| {
@@ -805,7 +1004,7 @@ fn passes_in_their_order() {
     let empty = [public(), local(N), cp(0), pop(), ret()];
     let untyped = [public(), pop(), ret()];
     let unnamed = [public(), jump(9)];
-    let unshaped = [public(), instr(20, 0), ret()];
+    let unshaped = [public(), instr(21, 0), ret()];
     let mut rows = bank(&[]);
     let at = rows.len();
     rows.extend(leak);

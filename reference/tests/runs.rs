@@ -103,6 +103,12 @@ fn calls_of_nothing_good() {
     for budget in [0, 65_536, 65_537, u32::MAX] {
         refused_list(&table, &[call_of(4, 1), call_of(4, budget)], 16, 1);
     }
+    // A read-only parameter or result is no number either.
+    let takes = [public(), param(V), ret()];
+    let gives = [public(), local(N), result(V), load(1), st(0), borrow(0), freeze(), ret()];
+    let table = [&table[..], &takes, &gives].concat();
+    refused_list(&table, &[call_of(4, 1), call_of(5, 1), argument(0)], 16, 1);
+    refused_list(&table, &[call_of(4, 1), call_of(6, 9)], 16, 1);
 }
 
 #[test]
@@ -558,6 +564,151 @@ fn writes_into_the_callers_local() {
     let poke = [guest(), public(), param(R), load(12), mv(0), write(), ret()];
     let main = [public(), param(N), result(N), borrow(0), call(0), mv(0), ret()];
     prints(&[&poke[..], &main].concat(), &calls(&[(1, &[3])]), &["call 0 done 12"]);
+}
+
+// Read-only references
+
+/// Coins with 4 show(read-only reference to a coin), which gives one to its first number, and 5 ask(address), which
+/// has it read by a guest in two ways: 6 is given a reference to the number, 7 one to the coin.
+fn shown_coins() -> Vec<Row> {
+    let show = [public(), param(rec_view(0)), result(V), mv(0), field(0, 0), ret()];
+    // Instructions begin at row 51.
+    let head = [public(), param(N), result(N), result(N)];
+    let ask = [cp(0), global(0), freeze(), field(0, 0), call(6), mv(0), global(0), freeze(), call(7), ret()];
+    let by_number = [guest(), public(), param(V), result(N), mv(0), read(), ret()];
+    let by_coin = [public(), param(rec_view(0)), result(N), mv(0), call(4), read(), ret()];
+    coins(&[&show[..], &head, &ask, &by_number, &by_coin].concat())
+}
+
+#[test]
+fn a_guest_reads_through_what_it_is_given() {
+    let list = calls(&[(0, &[7, 50]), (5, &[7])]);
+    prints(&shown_coins(), &list, &["call 0 done", "call 1 done 50 50", "store 0 7 50 9"]);
+}
+
+#[test]
+fn stop_31_before_freeze() {
+    // Freeze is instruction 2, row 53, and instruction 7, row 58. The guest's 6 does three instructions.
+    let mint = calls(&[(0, &[7, 50])]);
+    for (budget, row) in [(2, 53), (3, 54), (10, 58), (11, 59)] {
+        let list = [&mint[..], &[call_of(5, budget), argument(7)]].concat();
+        let stop = format!("call 1 stop 31 row {row}");
+        prints(&shown_coins(), &list, &["call 0 done", &stop, "store 0 7 50 9"]);
+    }
+}
+
+#[test]
+fn a_frozen_reference_shows_what_is_written() {
+    let head = [public(), param(N), local(R), local(V), result(N)];
+    let both = [mv(0), global(0), field(0, 0), st(1), cp(1), freeze(), st(2)];
+    let code = [load(41), cp(1), write(), cp(2), read(), ret()];
+    let list = calls(&[(0, &[7, 50]), (4, &[7])]);
+    prints(&coins(&[&head[..], &both, &code].concat()), &list, &["call 0 done", "call 1 done 41", "store 0 7 41 9"]);
+}
+
+/// As `with_coin`, but local 2 is a read-only reference to a number, 3 one to a coin.
+fn with_frozen(code: &[Row]) -> Vec<Row> {
+    let head = [public(), param(N), local(rec(0)), local(V), local(rec_view(0)), result(N)];
+    coins(&[&head, code].concat())
+}
+
+#[test]
+fn stop_35_frozen_and_unpacked() {
+    let make = [load(1), load(2), pack(0), st(1)];
+    let break_up = [mv(1), unpack(0), pop(), pop()];
+    let code = [&make[..], &[borrow(1), field(0, 1), freeze(), st(2)], &break_up, &[cp(2), read(), ret()]].concat();
+    // read is instruction 13.
+    prints(&with_frozen(&code), &calls(&[(4, &[7])]), &["call 0 stop 35 row 60"]);
+    // Another coin in its room, and the reference borrowed through a frozen one.
+    let keep = [borrow(1), freeze(), field(0, 1), st(2)];
+    let code = [&make[..], &keep, &break_up, &make, &[cp(2), read()], &break_up, &[ret()]].concat();
+    // read is instruction 17.
+    prints(&with_frozen(&code), &calls(&[(4, &[7])]), &["call 0 stop 35 row 64"]);
+    // A published coin: field is instruction 10.
+    let code = [
+        cp(0),
+        global(0),
+        freeze(),
+        st(3),
+        cp(0),
+        move_from(0),
+        unpack(0),
+        pop(),
+        pop(),
+        cp(3),
+        field(0, 1),
+        read(),
+        ret(),
+    ];
+    let list = calls(&[(0, &[7, 50]), (4, &[7])]);
+    prints(&with_frozen(&code), &list, &["call 0 done", "call 1 stop 35 row 57", "store 0 7 50 9"]);
+}
+
+#[test]
+fn stop_35_frozen_and_frame_returned() {
+    let lend = [guest(), public(), param(N), result(V), borrow(0), freeze(), ret()];
+    let reading = [public(), result(N), load(5), call(0), read(), ret()];
+    prints(&[&lend[..], &reading].concat(), &calls(&[(1, &[])]), &["call 0 stop 35 row 11"]);
+    // A new frame stands where the old one did, with a full local 0; it reads in row 12.
+    let peek = [public(), param(N), param(V), result(N), mv(1), read(), ret()];
+    let main = [public(), result(N), load(77), load(5), call(0), call(1), ret()];
+    prints(&[&lend[..], &peek, &main].concat(), &calls(&[(2, &[])]), &["call 0 stop 35 row 12"]);
+}
+
+#[test]
+fn stop_35_frozen_and_local_empty() {
+    let head = [param(N), local(V), result(N)];
+    let keep = [borrow(0), freeze(), st(1), mv(0), pop()];
+    let table = procedure(&[&head[..], &keep, &[cp(1), read(), ret()]].concat());
+    prints(&table, &calls(&[(0, &[3])]), &["call 0 stop 35 row 11"]);
+    // Filled again it works again.
+    let table = procedure(&[&head[..], &keep, &[load(6), st(0), cp(1), read(), ret()]].concat());
+    prints(&table, &calls(&[(0, &[3])]), &["call 0 done 6"]);
+    // A record's local: field is instruction 11, row 58. With another coin in it the reference leads there.
+    let make = [load(1), load(2), pack(0), st(1)];
+    let keep = [borrow(1), freeze(), st(3), mv(1), cp(0), move_to(0)];
+    let look = [cp(3), field(0, 1), read()];
+    let table = with_frozen(&[&make[..], &keep, &look, &[ret()]].concat());
+    prints(&table, &calls(&[(4, &[7])]), &["call 0 stop 35 row 58"]);
+    let other = [load(3), load(4), pack(0), st(1)];
+    let end = [mv(1), unpack(0), pop(), pop(), ret()];
+    let table = with_frozen(&[&make[..], &keep, &other, &look, &end].concat());
+    prints(&table, &calls(&[(4, &[7])]), &["call 0 done 4", "store 0 7 1 2"]);
+}
+
+#[test]
+fn freeze_does_not_stop() {
+    // The local is empty when its reference is frozen in row 10; reading stops in row 11.
+    let table =
+        procedure(&[param(N), local(R), result(N), borrow(0), st(1), mv(0), pop(), cp(1), freeze(), read(), ret()]);
+    prints(&table, &calls(&[(0, &[3])]), &["call 0 stop 35 row 11"]);
+    // The coin is broken up when its reference is frozen; field is instruction 12, row 59.
+    let code = [
+        load(1),
+        load(2),
+        pack(0),
+        st(1),
+        borrow(1),
+        st(3),
+        mv(1),
+        unpack(0),
+        pop(),
+        pop(),
+        cp(3),
+        freeze(),
+        field(0, 1),
+        read(),
+        ret(),
+    ];
+    prints(&with_coin(&code), &calls(&[(4, &[7])]), &["call 0 stop 35 row 59"]);
+}
+
+#[test]
+fn stale_frozen_references_may_be_handled() {
+    let lend = [guest(), public(), param(N), result(R), borrow(0), ret()];
+    let pass = [public(), param(V), result(V), mv(0), ret()];
+    let main = [public(), local(V), load(5), call(0), freeze(), call(1), st(0), cp(0), pop(), mv(0), pop(), ret()];
+    prints(&[&lend[..], &pass, &main].concat(), &calls(&[(2, &[])]), &["call 0 done"]);
 }
 
 #[test]

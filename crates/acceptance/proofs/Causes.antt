@@ -1,27 +1,28 @@
 -- The faults of the locals pass and of the leaks pass are, at every instruction, the lowest number that a walk shows a cause for.
 use Prim.Native.Nat.{ℕ, zero, suc, _<_, _≤_}
-use mathlib.Core.Path.{_≡_, refl, sym, _∙_}
+use mathlib.Core.Path.{_≡_, refl, sym, ap, _∙_}
 use mathlib.Core.Bool.{Bool, true, false, cond, _&&_, _||_, or-true, false≢true}
-use mathlib.Core.List.{List}
+use mathlib.Core.List.{List, [], _∷_, _++_}
 use mathlib.Core.Logic.{_⊎_, inl, inr}
 use mathlib.Mathlib.Data.Bool.Basic.{and-eq-true-eq-eq-true-and-eq-true as both}
 use native.Mathlib.Decide.{ℕ-discrete}
 use native.Mathlib.Omega.{arith}
 use borrow.Author.Tests.{eqb-true, eq-eqb}
 use lib.Dec.{eqb}
+use lib.ListN.{length, length-append}
 use Rattle.table.specs.Format.{opMvLoc, opCpLoc, opStLoc, opBorrowLoc, opCall, opRet}
 use Rattle.table.specs.Rows.{rowCount}
 use Rattle.table.specs.Index.{indexOf}
-use Rattle.declarations.specs.Program.{codeOf, localCount, localKind, isRecord}
+use Rattle.declarations.specs.Program.{number, numberRef, codeOf, localCount, localKind, isRecord}
+use Rattle.operands.specs.Flow.{effectIn}
 use Rattle.flow.specs.Places.{operandMarked}
 use Rattle.locals.specs.Locals.{needsFull, leavesEmpty, leavesRecord, leavesSome, localFault}
-use Rattle.steps.specs.Steps.{marksOf}
+use Rattle.steps.specs.Steps.{stepOf, stepAt, marksOf}
 use Rattle.leaks.specs.Leaks.{guardedMarks, inTrusted, someMarked, leakIn, leakFrom, leakFault}
-use Rattle.acceptance.specs.Checked.{stepIn}
 use Rattle.judging.specs.Judging.{UpToOperands}
-use Rattle.acceptance.specs.Refusals.{opcode, operand, ArrivesFull, ArrivesMarked, LocalCause, used-empty, stored-over, left-behind, LeakCause, given-away, returned}
+use Rattle.acceptance.specs.Refusals.{opcode, operand, ArrivesFull, HandsMarked, LocalCause, used-empty, stored-over, left-behind, LeakCause, given-away, returned}
 use Rattle.acceptance.proofs.Rows.{own, inside-few}
-use Rattle.acceptance.proofs.Shown.{needs-local, stores-local, step-opcode, call-takes, ret-takes, named-local, empty-shown, empty-found, full-shown, full-found, marked-shown, marked-found, takes-few}
+use Rattle.acceptance.proofs.Shown.{needs-local, stores-local, call-takes, ret-takes, named-local, empty-shown, empty-found, full-shown, full-found, marked-shown, marked-found, takes-few}
 
 -- MvLoc, CpLoc and BorrowLoc are the opcodes that need their local full
 pub needs-three : (op : ℕ) → needsFull op ≡ true → (op ≡ opMvLoc) ⊎ (op ≡ opCpLoc) ⊎ (op ≡ opBorrowLoc)
@@ -39,7 +40,28 @@ three-need op (inl e) = rw e
 three-need op (inr (inl e)) = rw e
 three-need op (inr (inr e)) = rw e
 
--- a test that holds of some number below n: `leavesSome` and `someMarked` are such
+-- a marked writable reference among operands of some kinds
+marked-at : (nodes : List Bool) (i : ℕ) (ks : List ℕ) → someMarked nodes i ks ≡ true → (before after : List ℕ) × (ks ≡ before ++ (numberRef ∷ after)) × (operandMarked nodes i (length after) ≡ true)
+unfolding someMarked
+marked-at nodes i [] e = absurd (false≢true e)
+marked-at nodes i (k ∷ ks) e = go (eqb k numberRef) (operandMarked nodes i (length ks)) refl refl e (marked-at nodes i ks)
+  where
+    go : (a b : Bool) → eqb k numberRef ≡ a → operandMarked nodes i (length ks) ≡ b → ((a && b) || someMarked nodes i ks) ≡ true
+        → (someMarked nodes i ks ≡ true → (before after : List ℕ) × (ks ≡ before ++ (numberRef ∷ after)) × (operandMarked nodes i (length after) ≡ true))
+        → (before after : List ℕ) × (k ∷ ks ≡ before ++ (numberRef ∷ after)) × (operandMarked nodes i (length after) ≡ true)
+    go true true p q e later = ([], ks, ap (λ (x : ℕ). x ∷ ks) (eqb-true k numberRef p), q)
+    go true false p q e later = let r = later e in (k ∷ r .0, r .1, ap (λ (l : List ℕ). k ∷ l) (r .2), r .3)
+    go false b p q e later = let r = later e in (k ∷ r .0, r .1, ap (λ (l : List ℕ). k ∷ l) (r .2), r .3)
+
+at-marked : (nodes : List Bool) (i : ℕ) (before after : List ℕ) → operandMarked nodes i (length after) ≡ true → someMarked nodes i (before ++ (numberRef ∷ after)) ≡ true
+unfolding someMarked
+at-marked nodes i [] after e = rw e
+at-marked nodes i (k ∷ before) after e = rw (at-marked nodes i before after e) (or-true (eqb k numberRef && operandMarked nodes i (length (before ++ (numberRef ∷ after)))))
+
+after-below : (ks before after : List ℕ) → ks ≡ before ++ (numberRef ∷ after) → length after < length ks
+after-below ks before after e = rw (e, length-append) (omega arith)
+
+-- a test that holds of some number below n: `leavesSome` is such
 module _ (test some : ℕ → Bool) (none : some 0 ≡ false) (more : (n : ℕ) → some (suc n) ≡ (some n || test n)) where
   some-at : (n : ℕ) → some n ≡ true → (l : ℕ) × (l < n) × (test l ≡ true)
   some-at zero e = absurd (false≢true (sym none ∙ e))
@@ -126,40 +148,42 @@ module _ (t : List ℕ) (a : UpToOperands t) (q i : ℕ) (there : q < indexOf t 
       go false true = (λ z. omega arith, omega arith)
       go false false = (λ z. omega arith, omega arith)
 
-  -- some operand among those taken that can be marked
-  taken-shown : someMarked (marksOf t (indexOf t) (guardedMarks t) q (own t q)) i (stepIn t q i .takes) ≡ true
-      → (j : ℕ) × (j < stepIn t q i .takes) × ArrivesMarked t q i j
-  unfolding someMarked
-  taken-shown e =
-      let r = some-at (λ (j : ℕ). operandMarked (marksOf t (indexOf t) (guardedMarks t) q (own t q)) i j) (λ (n : ℕ). someMarked (marksOf t (indexOf t) (guardedMarks t) q (own t q)) i n) refl (λ n. refl) _ e in
-      let low = r .1 in
-      (r .0, low, marked-shown t a q there few i (r .0) (omega (arith, low, takes-few t a q there few i inside)) (r .2))
+  -- the kinds that the instruction takes, and the marks
+  abbrev takes : List ℕ
+  takes = effectIn t (indexOf t) (own t q) number i .takes
 
-  taken-found : (j : ℕ) → j < stepIn t q i .takes → ArrivesMarked t q i j
-      → someMarked (marksOf t (indexOf t) (guardedMarks t) q (own t q)) i (stepIn t q i .takes) ≡ true
-  unfolding someMarked
-  taken-found j h w =
-      at-some (λ (j : ℕ). operandMarked (marksOf t (indexOf t) (guardedMarks t) q (own t q)) i j) (λ (n : ℕ). someMarked (marksOf t (indexOf t) (guardedMarks t) q (own t q)) i n) refl (λ n. refl) _ j h
-      (marked-found t a q there few i j w)
+  abbrev nodes : List Bool
+  nodes = marksOf t (indexOf t) (guardedMarks t) q (own t q)
+
+  -- some writable reference among those taken that can be marked
+  taken-shown : someMarked nodes i takes ≡ true → HandsMarked t q i takes
+  unfolding stepAt stepOf effectIn
+  taken-shown e =
+      let r = marked-at nodes i takes e in
+      let low = after-below takes (r .0) (r .1) (r .2) in
+      (r .0, r .1, r .2, marked-shown t a q there few i (length (r .1)) (omega (arith, low, takes-few t a q there few i inside)) (r .3))
+
+  taken-found : HandsMarked t q i takes → someMarked nodes i takes ≡ true
+  taken-found (before, after, e, w) = rw e (at-marked nodes i before after (marked-found t a q there few i (length after) w))
 
   -- the fault by its tests
   leak-is : leakFault t (indexOf t) q (own t q) i
       ≡ leakNumber (inTrusted t (indexOf t) (own t q)) (eqb (opcode t q i) opCall) (eqb (opcode t q i) opRet)
-      (someMarked (marksOf t (indexOf t) (guardedMarks t) q (own t q)) i (stepIn t q i .takes))
+      (someMarked nodes i takes)
   unfolding leakFault leakFrom leakIn
-  leak-is = rw (step-opcode t q i)
+  leak-is = refl
 
   -- what has a fault of leaks has a cause for it
   pub leak-shown : (leakFault t (indexOf t) q (own t q) i ≡ 0 → ⊥) → LeakCause t q i (leakFault t (indexOf t) q (own t q) i)
   leak-shown = rw leak-is (go (inTrusted t (indexOf t) (own t q)) (eqb (opcode t q i) opCall) (eqb (opcode t q i) opRet)
-      (someMarked (marksOf t (indexOf t) (guardedMarks t) q (own t q)) i (stepIn t q i .takes)) refl refl refl refl)
+      (someMarked nodes i takes) refl refl refl refl)
     where
       go : (u x y z : Bool) → inTrusted t (indexOf t) (own t q) ≡ u → eqb (opcode t q i) opCall ≡ x → eqb (opcode t q i) opRet ≡ y
-          → someMarked (marksOf t (indexOf t) (guardedMarks t) q (own t q)) i (stepIn t q i .takes) ≡ z
+          → someMarked nodes i takes ≡ z
           → (leakNumber u x y z ≡ 0 → ⊥) → LeakCause t q i (leakNumber u x y z)
       go false x y z e f g h n = absurd (n refl)
-      go true true y true e f g h n = let c = eqb-true _ _ f in let r = taken-shown h in given-away e c (r .0) (rw (call-takes t q i c) at (r .1)) (r .2)
-      go true false true true e f g h n = let c = eqb-true _ _ g in let r = taken-shown h in returned e c (r .0) (rw (ret-takes t q i c) at (r .1)) (r .2)
+      go true true y true e f g h n = let c = eqb-true _ _ f in given-away e c (rw (call-takes t q i c) at (taken-shown h))
+      go true false true true e f g h n = let c = eqb-true _ _ g in returned e c (rw (ret-takes t q i c) at (taken-shown h))
       go true true true false e f g h n = absurd (n refl)
       go true true false false e f g h n = absurd (n refl)
       go true false true false e f g h n = absurd (n refl)
@@ -167,8 +191,8 @@ module _ (t : List ℕ) (a : UpToOperands t) (q i : ℕ) (there : q < indexOf t 
 
   -- what has a cause has a fault, and none is higher
   pub leak-found : (number : ℕ) → LeakCause t q i number → (leakFault t (indexOf t) q (own t q) i ≡ 0 → ⊥) × (leakFault t (indexOf t) q (own t q) i ≤ number)
-  leak-found number (given-away e c j h w) = rw (leak-is, e, eq-eqb _ opCall c, taken-found j (rw (call-takes t q i c) h) w) (λ z. omega arith, omega arith)
-  leak-found number (returned e c j h w) = rw (leak-is, e, eq-eqb _ opRet c, taken-found j (rw (ret-takes t q i c) h) w) (go (eqb (opcode t q i) opCall))
+  leak-found number (given-away e c w) = rw (leak-is, e, eq-eqb _ opCall c, taken-found (rw (call-takes t q i c) w)) (λ z. omega arith, omega arith)
+  leak-found number (returned e c w) = rw (leak-is, e, eq-eqb _ opRet c, taken-found (rw (ret-takes t q i c) w)) (go (eqb (opcode t q i) opCall))
     where
       go : (x : Bool) → (leakNumber true x true true ≡ 0 → ⊥) × (leakNumber true x true true ≤ 14)
       go true = (λ z. omega arith, omega arith)

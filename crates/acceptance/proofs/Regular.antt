@@ -1,8 +1,8 @@
 -- The steps of a procedure: MvLoc, CpLoc and StLoc are regular, and how many operands a step takes and pushes is as many as its effect does.
 use Prim.Native.Nat.{ℕ, zero, suc}
-use mathlib.Core.Path.{_≡_, refl, ap, _∙_}
+use mathlib.Core.Path.{_≡_, refl, sym, ap, _∙_}
 use mathlib.Core.Bool.{Bool, true, false, false≢true}
-use mathlib.Core.List.{List, [], _∷_}
+use mathlib.Core.List.{List, [], _∷_, map}
 use lib.ListN.{length, getD}
 use Rattle.laws.specs.Lists.{tabulate}
 use Rattle.laws.proofs.Lists.{length-tabulate}
@@ -13,7 +13,7 @@ use Rattle.table.specs.declared.index.ProcedureEntry.{ProcedureEntry}
 use Rattle.table.specs.Format.{opMvLoc, opCpLoc, opStLoc}
 use Rattle.table.specs.Rows.{rowAt}
 use Rattle.declarations.specs.Program.{number, codeOf}
-use Rattle.effects.specs.Effects.{effects, effectOf, noEffect}
+use Rattle.effects.specs.Effects.{Effect, effects, effectOf, noEffect}
 use Rattle.operands.specs.Flow.{effectIn}
 use Rattle.flow.specs.Paths.{Regular}
 use Rattle.steps.specs.Steps.{Marking, stepOf, stepAt}
@@ -57,17 +57,21 @@ regular t ix m p plain = record {
   carrying = λ i e. plain .carried t p _ _ (rowAt (codeOf t p) i) e;
 }
 
--- what Pop finds does not change how many operands an instruction takes, and pushes
+-- an element of a list that is mapped
+at-map : {A : Type 0} (f : A → ℕ) (d : A) (l : List A) (a : ℕ) → f (getD l a d) ≡ getD (map f l) a (f d)
+at-map f d [] a = refl
+at-map f d (x ∷ l) zero = refl
+at-map f d (x ∷ l) (suc a) = at-map f d l a
+
+-- what is on top does not change how many operands an instruction takes, and pushes
 module _ (t : List ℕ) (own : ProcedureEntry) (named : TypeEntry) (callee : ProcedureEntry) (b x y : ℕ) where
   same-takes : (a : ℕ) → length (getD (effects t own named callee b x) a noEffect .takes) ≡ length (getD (effects t own named callee b y) a noEffect .takes)
   unfolding effects
-  same-takes zero = refl
-  same-takes (suc a) = refl
+  same-takes a = at-map (λ (e : Effect). length (e .takes)) noEffect (effects t own named callee b x) a ∙ sym (at-map (λ (e : Effect). length (e .takes)) noEffect (effects t own named callee b y) a)
 
   same-gives : (a : ℕ) → length (getD (effects t own named callee b x) a noEffect .gives) ≡ length (getD (effects t own named callee b y) a noEffect .gives)
   unfolding effects
-  same-gives zero = refl
-  same-gives (suc a) = refl
+  same-gives a = at-map (λ (e : Effect). length (e .gives)) noEffect (effects t own named callee b x) a ∙ sym (at-map (λ (e : Effect). length (e .gives)) noEffect (effects t own named callee b y) a)
 
 -- a step takes as many operands as its effect
 pub step-takes : (t : List ℕ) (ix : Index) (m : Marking) (p : ProcedureEntry) (top i : ℕ) → stepAt t ix m p i .takes ≡ length (effectIn t ix p top i .takes)

@@ -15,7 +15,7 @@ use Rattle.table.specs.declared.index.ProcedureEntry.{ProcedureEntry}
 use Rattle.table.specs.Format.{opMvLoc, opCpLoc, opStLoc, opBorrowLoc, opCall, opRet}
 use Rattle.table.specs.Rows.{rowCount}
 use Rattle.table.specs.Index.{indexOf}
-use Rattle.declarations.specs.Program.{procedureIn, codeOf, localCount, isParameter, parametersEnd, parameterKinds, resultKinds, parameterCount}
+use Rattle.declarations.specs.Program.{number, procedureIn, codeOf, localCount, isParameter, parametersEnd, parameterKinds, resultKinds, parameterCount}
 use Rattle.names.specs.Names.{nothing, localNumber, names}
 use Rattle.effects.specs.Kinds.{good}
 use Rattle.effects.specs.Effects.{effects, effectOf}
@@ -77,12 +77,12 @@ module _ (t : List ℕ) (q : ℕ) where
   step-operand i = refl
 
   -- a Call takes its parameters, Ret the results
-  pub call-takes : (i : ℕ) → opcode t q i ≡ opCall → stepIn t q i .takes ≡ length (parameterKinds t (procedureIn (indexOf t) (operand t q i)))
-  unfolding stepAt stepOf effectOf effects
+  pub call-takes : (i : ℕ) → opcode t q i ≡ opCall → effectIn t (indexOf t) (own t q) number i .takes ≡ parameterKinds t (procedureIn (indexOf t) (operand t q i))
+  unfolding effectIn effectOf effects
   call-takes i e = rw e
 
-  pub ret-takes : (i : ℕ) → opcode t q i ≡ opRet → stepIn t q i .takes ≡ length (resultKinds t (own t q))
-  unfolding stepAt stepOf effectOf effects
+  pub ret-takes : (i : ℕ) → opcode t q i ≡ opRet → effectIn t (indexOf t) (own t q) number i .takes ≡ resultKinds t (own t q)
+  unfolding effectIn effectOf effects
   ret-takes i e = rw e
 
 -- Procedure q of a table that the passes before locals accept.

@@ -30,7 +30,7 @@ use Rattle.acceptance.proofs.Counts.{type-few, fields-few, row-sort}
 -- a row of sort 0 or 1 declares no reference
 sort-plain : (row : Row) → row .a < 2 → isReference (rowKind row) ≡ false
 unfolding isReference rowKind
-sort-plain row h = lt-leb 2 ((4 * row .b + row .a) % 4) (omega arith)
+sort-plain row h = lt-leb 2 ((8 * row .b + row .a) % 8) (omega arith)
 
 -- one that declares a record is of sort 1, and names its type
 sort-record : (row : Row) (z : ℕ) → row .a < 2 → rowKind row ≡ recordOf z → (row .a ≡ recordSort) × (row .b ≡ z)

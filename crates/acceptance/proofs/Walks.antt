@@ -3,10 +3,8 @@ use Prim.Native.Nat.{ℕ, _<_}
 use mathlib.Core.Path.{_≡_, refl}
 use mathlib.Core.Bool.{Bool, true, false}
 use mathlib.Core.List.{List}
-use mathlib.Core.Logic.{_⊎_, inl, inr}
-use lib.ListN.{getD}
+use lib.ListN.{length, getD}
 use Rattle.table.specs.declared.Verdict.the-variants.{Accepted}
-use Rattle.table.specs.Format.{opCall, opRet}
 use Rattle.table.specs.Rows.{rowCount}
 use Rattle.table.specs.Index.{indexOf}
 use Rattle.declarations.specs.Program.{codeOf, localCount, parameterCount}
@@ -16,11 +14,11 @@ use Rattle.flow.proofs.Marks.{no-local-mark, no-operand-mark}
 use Rattle.leaks.specs.Leaks.{inTrusted}
 use Rattle.judging.specs.Judging.{AcceptedTable, judgeOf}
 use Rattle.judging.proofs.Accepts.{accepted, up-to-operands}
-use Rattle.acceptance.specs.Checked.{stepIn, startsIn, WalkOf, Checked}
-use Rattle.acceptance.specs.Refusals.{opcode, LocalCause, used-empty, stored-over, left-behind, LeakCause, given-away, returned}
+use Rattle.acceptance.specs.Checked.{stepIn, startsIn, WalkOf, Unmarked, Checked}
+use Rattle.acceptance.specs.Refusals.{HandsMarked, LocalCause, used-empty, stored-over, left-behind, LeakCause, given-away, returned}
 use Rattle.acceptance.proofs.Rows.{own}
 use Rattle.acceptance.proofs.Guest.{no-fresh}
-use Rattle.acceptance.proofs.Shown.{call-takes, ret-takes, flow-at, arrived}
+use Rattle.acceptance.proofs.Shown.{flow-at, arrived}
 use Rattle.acceptance.proofs.Causes.{needs-three}
 use Rattle.acceptance.proofs.Refusals.{locals-accepted, leaks-accepted}
 
@@ -63,13 +61,12 @@ module _ (t : List ℕ) (a : AcceptedTable t) (q : ℕ) (there : q < indexOf t .
       )
 
   -- what a Call takes, and what Ret returns, is not marked
-  none-taken : (opcode t q i ≡ opCall) ⊎ (opcode t q i ≡ opRet) → (j : ℕ) → j < stepIn t q i .takes → getD ms j false ≡ false
-  none-taken c j h = go (inTrusted t (indexOf t) (own t q)) refl c
+  none-taken : (ks : List ℕ) → (inTrusted t (indexOf t) (own t q) ≡ true → HandsMarked t q i ks → ⊥) → Unmarked ks ms
+  none-taken ks none before after e = go (inTrusted t (indexOf t) (own t q)) refl
     where
-      go : (b : Bool) → inTrusted t (indexOf t) (own t q) ≡ b → (opcode t q i ≡ opCall) ⊎ (opcode t q i ≡ opRet) → getD ms j false ≡ false
-      go true tr (inl c) = not-true-false _ (λ z. no-leak (given-away tr c j (rw (call-takes t q i c) at h) (k, ls, ms, w, z)))
-      go true tr (inr c) = not-true-false _ (λ z. no-leak (returned tr c j (rw (ret-takes t q i c) at h) (k, ls, ms, w, z)))
-      go false g c = guest-walk g .1 j
+      go : (b : Bool) → inTrusted t (indexOf t) (own t q) ≡ b → getD ms (length after) false ≡ false
+      go true tr = not-true-false _ (λ z. none tr (before, after, e, (k, ls, ms, w, z)))
+      go false g = guest-walk g .1 (length after)
 
 -- what an accepted table gives at the end of every walk
 pub checked : (t : List ℕ) → AcceptedTable t → (q : ℕ) → q < indexOf t .procedures → q < 128 → {k i : ℕ} {ls : List Slot} {ms : List Bool} → WalkOf t q k i ls ms → Checked t q i ls ms
@@ -77,8 +74,8 @@ checked t a q there few {k} {i} {ls} {ms} w = record {
   full-there = λ e. slot-full _ (λ z. no-local t a q there few w (used-empty (needs-three _ e) (k, ls, ms, w, z)));
   none-over = λ e r. slot-empty _ (λ m z. no-local t a q there few w (stored-over e r (k, ls, ms, m, w, z)));
   none-left = λ e l h r. slot-empty _ (λ m z. no-local t a q there few w (left-behind e l h r (k, ls, ms, m, w, z)));
-  none-given = λ e. none-taken t a q there few w (inl e);
-  none-returned = λ e. none-taken t a q there few w (inr e);
+  none-given = λ e. none-taken t a q there few w _ (λ tr g. no-leak t a q there few w (given-away tr e g));
+  none-returned = λ e. none-taken t a q there few w _ (λ tr g. no-leak t a q there few w (returned tr e g));
   guest-clean = guest-walk t a q there few w;
 }
 

@@ -2,11 +2,11 @@
 use Prim.Native.Nat.{ℕ, _<_}
 use mathlib.Core.Path.{_≡_}
 use mathlib.Core.Bool.{Bool, true, false}
-use mathlib.Core.List.{List}
-use lib.ListN.{getD}
+use mathlib.Core.List.{List, _∷_, _++_}
+use lib.ListN.{length, getD}
 use Rattle.table.specs.Format.{opStLoc, opCall, opRet}
 use Rattle.table.specs.Index.{indexOf}
-use Rattle.declarations.specs.Program.{procedureIn, codeOf, localCount, localKind, isRecord, parameterCount, instructionIn}
+use Rattle.declarations.specs.Program.{numberRef, isRecord, procedureIn, codeOf, localCount, localKind, parameterCount, parameterKinds, resultKinds, instructionIn}
 use Rattle.flow.specs.Steps.{Step, nexts}
 use Rattle.flow.specs.Walks.{Slot, empty, full, Walk, entry, markOf}
 use Rattle.locals.specs.Locals.{needsFull}
@@ -24,6 +24,10 @@ module _ (t : List ℕ) (q : ℕ) where
   abbrev pub WalkOf : ℕ → ℕ → List Slot → List Bool → Type 0
   WalkOf = Walk (nexts (codeOf t (procedureIn (indexOf t) q))) stepIn (entry startsIn (parameterCount t (procedureIn (indexOf t) q)) (localCount (procedureIn (indexOf t) q)))
 
+-- of operands of these kinds, the last on top, no writable reference to a number is marked
+abbrev pub Unmarked : List ℕ → List Bool → Type 0
+Unmarked ks ms = (before after : List ℕ) → ks ≡ before ++ (numberRef ∷ after) → getD ms (length after) false ≡ false
+
 -- what instruction i finds where a walk arrives with these locals and marks
 pub record Checked (t : List ℕ) (q i : ℕ) (ls : List Slot) (ms : List Bool) : Type 0 where
   -- MvLoc, CpLoc and BorrowLoc find their local full
@@ -31,8 +35,8 @@ pub record Checked (t : List ℕ) (q i : ℕ) (ls : List Slot) (ms : List Bool) 
   -- StLoc finds no record in its local, Ret in none
   pub none-over : instructionIn t (indexOf t) q i .a ≡ opStLoc → isRecord (localKind t (procedureIn (indexOf t) q) (instructionIn t (indexOf t) q i .b)) ≡ true → getD ls (instructionIn t (indexOf t) q i .b) empty ≡ empty
   pub none-left : instructionIn t (indexOf t) q i .a ≡ opRet → (l : ℕ) → l < localCount (procedureIn (indexOf t) q) → isRecord (localKind t (procedureIn (indexOf t) q) l) ≡ true → getD ls l empty ≡ empty
-  -- nothing that a Call takes, or that Ret returns, is marked
-  pub none-given : instructionIn t (indexOf t) q i .a ≡ opCall → (j : ℕ) → j < stepIn t q i .takes → getD ms j false ≡ false
-  pub none-returned : instructionIn t (indexOf t) q i .a ≡ opRet → (j : ℕ) → j < stepIn t q i .takes → getD ms j false ≡ false
+  -- no writable reference that a Call takes, or that Ret returns, is marked
+  pub none-given : instructionIn t (indexOf t) q i .a ≡ opCall → Unmarked (parameterKinds t (procedureIn (indexOf t) (instructionIn t (indexOf t) q i .b))) ms
+  pub none-returned : instructionIn t (indexOf t) q i .a ≡ opRet → Unmarked (resultKinds t (procedureIn (indexOf t) q)) ms
   -- in a guest nothing is marked at all
   pub guest-clean : inTrusted t (indexOf t) (procedureIn (indexOf t) q) ≡ false → ((l : ℕ) → markOf (getD ls l empty) ≡ false) × ((j : ℕ) → getD ms j false ≡ false)

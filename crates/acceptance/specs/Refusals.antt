@@ -2,7 +2,7 @@
 use Prim.Native.Nat.{ℕ, _+_, _<_, _≤_}
 use mathlib.Core.Path.{_≡_}
 use mathlib.Core.Bool.{Bool, true, false}
-use mathlib.Core.List.{List}
+use mathlib.Core.List.{List, _∷_, _++_}
 use mathlib.Core.Logic.{_⊎_}
 use lib.ListN.{length, getD}
 use Rattle.table.specs.declared.index.ProcedureEntry.{ProcedureEntry}
@@ -10,7 +10,7 @@ use Rattle.table.specs.Format.{opMvLoc, opCpLoc, opStLoc, opBorrowLoc, opCall, 
 use Rattle.table.specs.Rows.{rowCount, rowAt}
 use Rattle.table.specs.Index.{indexOf}
 use Rattle.table.specs.Refusals.{emptyLocal, lostRecord, markGiven, markReturned}
-use Rattle.declarations.specs.Program.{procedureIn, codeOf, localCount, localKind, isRecord, parameterKinds, resultKinds}
+use Rattle.declarations.specs.Program.{numberRef, isRecord, procedureIn, codeOf, localCount, localKind, parameterKinds, resultKinds}
 use Rattle.flow.specs.Walks.{Slot, empty, full}
 use Rattle.leaks.specs.Leaks.{inTrusted}
 use Rattle.acceptance.specs.Checked.{WalkOf}
@@ -37,16 +37,21 @@ module _ (t : List ℕ) (q i : ℕ) where
   abbrev pub ArrivesMarked : ℕ → Type 0
   ArrivesMarked j = (k : ℕ) × (ls : List Slot) × (ms : List Bool) × WalkOf t q k i ls ms × (getD ms j false ≡ true)
 
+  -- among operands of these kinds, the last on top, some walk arrives with a mark on a writable reference to a number
+  abbrev pub HandsMarked : List ℕ → Type 0
+  HandsMarked ks = (before after : List ℕ) × (ks ≡ before ++ (numberRef ∷ after)) × ArrivesMarked (length after)
+
   -- 11: MvLoc, CpLoc or BorrowLoc on a local that some walk leaves empty; 12: StLoc where some walk leaves a record in that local, or Ret in any
   pub data LocalCause : ℕ → Type 0 where
     used-empty : (opcode ≡ opMvLoc) ⊎ (opcode ≡ opCpLoc) ⊎ (opcode ≡ opBorrowLoc) → ArrivesEmpty operand → LocalCause emptyLocal
     stored-over : opcode ≡ opStLoc → isRecord (localKind t own operand) ≡ true → ArrivesFull operand → LocalCause lostRecord
     left-behind : opcode ≡ opRet → (l : ℕ) → l < localCount own → isRecord (localKind t own l) ≡ true → ArrivesFull l → LocalCause lostRecord
 
-  -- in a trusted module, 13: a marked reference given to a Call, as one of its parameters; 14: a marked reference returned, as one of the results
+  -- in a trusted module, 13: a marked reference given to a Call, as one of its parameters; 14: a marked reference returned, as one of the results; a
+  -- read-only one is never marked
   pub data LeakCause : ℕ → Type 0 where
-    given-away : inTrusted t (indexOf t) own ≡ true → opcode ≡ opCall → (j : ℕ) → j < length (parameterKinds t (procedureIn (indexOf t) operand)) → ArrivesMarked j → LeakCause markGiven
-    returned : inTrusted t (indexOf t) own ≡ true → opcode ≡ opRet → (j : ℕ) → j < length (resultKinds t own) → ArrivesMarked j → LeakCause markReturned
+    given-away : inTrusted t (indexOf t) own ≡ true → opcode ≡ opCall → HandsMarked (parameterKinds t (procedureIn (indexOf t) operand)) → LeakCause markGiven
+    returned : inTrusted t (indexOf t) own ≡ true → opcode ≡ opRet → HandsMarked (resultKinds t own) → LeakCause markReturned
 
 -- a row earns a number: it is an instruction of a procedure, with a cause for that number
 abbrev pub Earns : (List ℕ → ℕ → ℕ → ℕ → Type 0) → List ℕ → ℕ → ℕ → Type 0

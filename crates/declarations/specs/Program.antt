@@ -21,9 +21,9 @@ use Rattle.table.specs.Verdicts.{andThen}
 use Rattle.table.specs.Index.{noType, noProcedure}
 use Rattle.table.specs.Procedures.{partOf}
 
--- A kind is a sort and a type in one number: four times the type, and the sort.
+-- A kind is a sort and a type in one number: eight times the type, and the sort.
 abbrev pub kindOf : ℕ → ℕ → ℕ
-kindOf sort type = 4 * type + sort
+kindOf sort type = 8 * type + sort
 
 -- a number, a record of type y, a reference to a number, a reference to a record of type y
 abbrev pub number : ℕ
@@ -38,15 +38,30 @@ numberRef = kindOf numberReference 0
 abbrev pub recordRef : ℕ → ℕ
 recordRef y = kindOf recordReference y
 
--- a reference to what a number or record kind names; whether a kind is a record, or a reference
+-- a reference to what a number or record kind names; the read-only reference to what such a reference leads to
 abbrev pub referenceTo : ℕ → ℕ
 referenceTo k = k + 2
 
+abbrev pub frozen : ℕ → ℕ
+frozen k = k + 2
+
+-- a read-only reference to a number, and to a record of type y
+abbrev pub numberRead : ℕ
+numberRead = frozen numberRef
+
+abbrev pub recordRead : ℕ → ℕ
+recordRead y = frozen (recordRef y)
+
+-- whether a kind is a record, a reference, or a reference that can be written through
+
 unfoldable pub isRecord : ℕ → Bool
-isRecord k = eqb (k % 4) recordSort
+isRecord k = eqb (k % 8) recordSort
 
 unfoldable pub isReference : ℕ → Bool
-isReference k = leb numberReference (k % 4)
+isReference k = leb numberReference (k % 8)
+
+unfoldable pub isWritable : ℕ → Bool
+isWritable k = isReference k && leb (k % 8) recordReference
 
 -- the kind that a field, local or result row declares: A is the sort, B the type
 unfoldable pub rowKind : Row → ℕ

@@ -1,16 +1,58 @@
 // What a table declares, read through its index.
 ghost use mathlib.Core.Path.{_≡_};
-ghost use Rattle.declarations.specs.Program.{rowKind, localCount, parametersEnd};
+ghost use Rattle.declarations.specs.Program.{recordOf, recordRef, isRecord, isReference, isWritable, rowKind, localCount, parametersEnd};
 ghost use Rattle.declarations.specs.Limits.{overLimits};
 use table::Row;
 use table::format;
 use table::index::ProcedureEntry;
 
-// The kind that a field, local or result row declares: four times the type, and the sort.
+// Kinds: eight times the type, and the sort. Those without a type: a number and a reference to one.
+pub const NUMBER: u32 = 0;
+
+pub const NUMBER_REF: u32 = 2;
+
+// A record and a reference to one, by type.
+pub fn record_of(y: u16) -> u32
+    ensures { λ r. ⌜ r ≡ recordOf y ⌝ }
+{
+    8 * (y as u32) + 1
+}
+
+pub fn record_ref(y: u16) -> u32
+    ensures { λ r. ⌜ r ≡ recordRef y ⌝ }
+{
+    8 * (y as u32) + 3
+}
+
+// Whether a kind is a record.
+pub fn is_record(kind: u32) -> bool
+    ensures { λ r. ⌜ r ≡ isRecord kind ⌝ }
+{
+    kind % 8 == 1
+}
+
+// Whether a kind is a reference.
+pub fn is_reference(kind: u32) -> bool
+    ensures { λ r. ⌜ r ≡ isReference kind ⌝ }
+{
+    2 <= kind % 8
+}
+
+// Whether a kind is a reference that can be written through.
+pub fn is_writable(kind: u32) -> bool
+    ensures { λ r. ⌜ r ≡ isWritable kind ⌝ }
+{
+    if is_reference(kind) {
+        return kind % 8 <= 3;
+    }
+    false
+}
+
+// The kind that a field, local or result row declares.
 pub fn row_kind(row: Row) -> u32
     ensures { λ r. ⌜ r ≡ rowKind row ⌝ }
 {
-    4 * (row.b as u32) + (row.a as u32)
+    8 * (row.b as u32) + (row.a as u32)
 }
 
 // The row after a procedure's last parameter.

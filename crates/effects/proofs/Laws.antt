@@ -1,13 +1,13 @@
 -- Laws of the kinds of the operands present: what the code's stack stands for, rows of kinds, and the effects by opcode.
-use Prim.Native.Nat.{ℕ, zero, suc, _+_, _-_, _<_, _≤_, min}
+use Prim.Native.Nat.{ℕ, zero, suc, _+_, _-_, _%_, _<_, _≤_, min}
 use mathlib.Core.Path.{_≡_, refl, ap, sym, _∙_}
-use mathlib.Core.Bool.{Bool, false, cond, not, _&&_}
+use mathlib.Core.Bool.{Bool, true, false, cond, not, _&&_, false≢true}
 use mathlib.Core.List.{List, [], _∷_}
-use native.Mathlib.Decide.{decLt}
+use native.Mathlib.Decide.{decLt, ℕ-discrete}
 use native.Mathlib.Omega.{arith}
 use native.Mathlib.Numerals.{add-one}
-use borrow.Author.Tests.{ne-eqb, le-ltb}
-use lib.Dec.{eqb, ltb}
+use borrow.Author.Tests.{eq-eqb, ne-eqb, le-ltb, leb-true}
+use lib.Dec.{eqb, ltb, leb}
 use lib.ListN.{length, getD, set, List·getD-eq-default}
 use lib.Seq.{getD-set-same, getD-set-other}
 use Rattle.laws.specs.Lists.{none}
@@ -16,12 +16,32 @@ use Rattle.table.specs.declared.index.TypeEntry.{TypeEntry}
 use Rattle.table.specs.declared.index.ProcedureEntry.{ProcedureEntry}
 use Rattle.table.specs.Format.{maxOperands, pastOpcodes}
 use Rattle.table.specs.Rows.{rowAt}
-use Rattle.declarations.specs.Program.{rowKind, kindsFrom, kindsOf}
+use Rattle.declarations.specs.Program.{rowKind, kindsFrom, kindsOf, isReference, isWritable}
 use Rattle.effects.specs.Kinds.{Kinds, good, bad, kindsOr, failed, taken, pushed, topOf, faultAfter, topFirst}
 use Rattle.effects.specs.Effects.{Effect, effects, effectOf, noEffect, applied, kindsAfter}
 
 suc-eqb : (n : ℕ) → eqb (suc n) 0 ≡ false
 suc-eqb n = ne-eqb (suc n) 0 (λ e. omega arith)
+
+-- a number that is two more than another, or cannot be
+pub two-less : (x y : ℕ) → 2 ≤ x → eqb x (y + 2) ≡ eqb (x - 2) y
+two-less x y h = go (ℕ-discrete (x - 2) y)
+  where
+    go : Dec (x - 2 ≡ y) → eqb x (y + 2) ≡ eqb (x - 2) y
+    go (yes e) = eq-eqb x (y + 2) (omega arith) ∙ sym (eq-eqb (x - 2) y e)
+    go (no e) = ne-eqb x (y + 2) (λ q. e (omega arith)) ∙ sym (ne-eqb (x - 2) y e)
+
+pub two-more : (x y : ℕ) → x < 2 → eqb x (y + 2) ≡ false
+two-more x y h = ne-eqb x (y + 2) (λ e. omega arith)
+
+-- a kind that can be written through leaves room for the read-only one
+pub not-last : (k : ℕ) → isWritable k ≡ true → k % 8 ≤ 3
+unfolding isWritable
+not-last k e = go (isReference k) e
+  where
+    go : (a : Bool) → (a && leb (k % 8) 3) ≡ true → k % 8 ≤ 3
+    go true e = leb-true (k % 8) 3 e
+    go false e = absurd (false≢true e)
 
 suc-pred : (n : ℕ) → suc n - 1 ≡ n
 suc-pred n = omega arith

@@ -1,17 +1,18 @@
 -- What each instruction takes and pushes (document 01, "Opcodes").
 use Prim.Native.Nat.{ℕ, _/_, _%_}
-use mathlib.Core.Bool.{Bool, true, false, cond, not}
+use mathlib.Core.Bool.{Bool, true, false, cond, not, _||_}
 use mathlib.Core.List.{List, [], _∷_}
+use lib.Dec.{eqb}
 use lib.ListN.{getD}
 use Rattle.table.specs.declared.Row.{Row}
 use Rattle.table.specs.declared.index.TypeEntry.{TypeEntry}
 use Rattle.table.specs.declared.index.ProcedureEntry.{ProcedureEntry}
 use Rattle.table.specs.Rows.{rowAt}
 use Rattle.table.specs.Refusals.{wrongOperand}
-use Rattle.declarations.specs.Program.{number, numberRef, recordOf, recordRef, referenceTo, isRecord, isReference, rowKind, fieldRow, fieldKinds, localKind, parameterKinds, resultKinds}
+use Rattle.declarations.specs.Program.{number, numberRef, recordOf, recordRef, referenceTo, frozen, isRecord, isReference, isWritable, rowKind, fieldRow, fieldKinds, localKind, parameterKinds, resultKinds}
 use Rattle.effects.specs.Kinds.{Kinds, failed, takenAll, pushedAll, topOf}
 
--- the kinds that an instruction takes and pushes, in the order in which they are pushed, and whether its local, or what Pop finds, is fit for it
+-- the kinds that an instruction takes and pushes, in the order in which they are pushed, and whether its local, or the top operand, is fit for it
 pub record Effect : Type 0 where
   pub fit : Bool
   pub takes : List ℕ
@@ -23,7 +24,15 @@ effect takes gives = record { fit = true; takes = takes; gives = gives }
 abbrev pub effectIf : Bool → List ℕ → List ℕ → Effect
 effectIf fit takes gives = record { fit = fit; takes = takes; gives = gives }
 
--- by opcode, for operand b in procedure `own` of the table t. `named` is the type that b names, `callee` the procedure, `top` the kind that Pop finds
+-- whether an operand of kind `top` can be read as a reference of kind k: it is one, or the read-only one to the same
+unfoldable pub reads : ℕ → ℕ → Bool
+reads k top = eqb top k || eqb top (frozen k)
+
+-- a reference of kind k, read-only where one of kind `top` is
+unfoldable pub alike : ℕ → ℕ → ℕ
+alike top k = cond (isWritable top) k (frozen k)
+
+-- by opcode, for operand b in procedure `own` of the table t. `named` is the type that b names, `callee` the procedure, `top` the kind of the top operand
 unfoldable pub effects : List ℕ → ProcedureEntry → TypeEntry → ProcedureEntry → ℕ → ℕ → List Effect
 effects t own named callee b top =
     -- Pop: a number or a reference; LoadConst
@@ -34,11 +43,11 @@ effects t own named callee b top =
     ∷ effectIf (not (isRecord (localKind t own b))) [] (localKind t own b ∷ [])
     ∷ effect (localKind t own b ∷ []) []
     ∷ effectIf (not (isReference (localKind t own b))) [] (referenceTo (localKind t own b) ∷ [])
-    -- ReadRef; WriteRef: number, then reference
-    ∷ effect (numberRef ∷ []) (number ∷ [])
+    -- ReadRef: read-only or not; WriteRef: number, then reference
+    ∷ effectIf (reads numberRef top) (top ∷ []) (number ∷ [])
     ∷ effect (number ∷ numberRef ∷ []) []
-    -- BorrowFld: b is type times 8 plus field
-    ∷ effect (recordRef (b / 8) ∷ []) (referenceTo (rowKind (rowAt t (fieldRow named (b % 8)))) ∷ [])
+    -- BorrowFld: b is type times 8 plus field; through a read-only reference it gives a read-only one
+    ∷ effectIf (reads (recordRef (b / 8)) top) (top ∷ []) (alike top (referenceTo (rowKind (rowAt t (fieldRow named (b % 8))))) ∷ [])
     -- Pack; Unpack: the fields in order
     ∷ effect (fieldKinds t named) (recordOf b ∷ [])
     ∷ effect (recordOf b ∷ []) (fieldKinds t named)
@@ -54,6 +63,8 @@ effects t own named callee b top =
     ∷ effect [] []
     ∷ effect (number ∷ []) []
     ∷ effect (number ∷ number ∷ []) (number ∷ [])
+    -- Freeze: a reference that can be written through becomes read-only
+    ∷ effectIf (isWritable top) (top ∷ []) (frozen top ∷ [])
     ∷ []
 
 -- a number that is no opcode
@@ -63,7 +74,7 @@ noEffect = record { fit = false; takes = []; gives = [] }
 unfoldable pub effectOf : List ℕ → ProcedureEntry → TypeEntry → ProcedureEntry → Row → ℕ → Effect
 effectOf t own named callee row top = getD (effects t own named callee (row .b) top) (row .a) noEffect
 
--- the kinds after an instruction with this effect, where s are the kinds before: 7 where the local is unfit
+-- the kinds after an instruction with this effect, where s are the kinds before: 7 where the local, or the top operand, is unfit
 unfoldable pub applied : Effect → Kinds → Kinds
 applied e s = cond (e .fit) (pushedAll (e .gives) (takenAll (e .takes) s)) (failed wrongOperand s)
 

@@ -7,9 +7,12 @@ ghost use lib.Dec.{eqb};
 ghost use lib.ListN.{length, getD};
 ghost use Rattle.table.specs.Rows.{rowAt};
 ghost use Rattle.table.specs.Format.{maxOperands};
-ghost use Rattle.declarations.specs.Program.{number, numberRef, isRecord, isReference, recordOf, recordRef, referenceTo, rowKind, fieldRow, localKind, kindsOf, fieldKinds, parameterKinds, resultKinds};
+ghost use Rattle.declarations.specs.Program.{number, numberRef, isRecord, isReference, isWritable, recordOf, recordRef, referenceTo, frozen, rowKind, fieldRow, localKind, kindsOf, fieldKinds, parameterKinds, resultKinds};
 ghost use Rattle.effects.specs.Kinds.{view, good, failed, taken, pushed, takenAll, pushedAll, topOf, faultAfter};
-ghost use Rattle.effects.specs.Effects.{effect, effectIf, applied, kindsAfter};
+ghost use Rattle.effects.specs.Effects;
+ghost use Rattle.effects.specs.Effects.{effect, effectIf, alike, applied, kindsAfter};
+use declarations::NUMBER;
+use declarations::NUMBER_REF;
 use table::Row;
 use table::format;
 use table::index::ProcedureEntry;
@@ -22,23 +25,17 @@ pub struct Stack {
     pub fault: u8,
 }
 
-// Kinds without a type: a number and a reference to one.
-const NUMBER: u32 = 0;
-
-const NUMBER_REF: u32 = 2;
-
-// Whether a kind is a record.
-fn is_record(kind: u32) -> bool
-    ensures { λ r. ⌜ r ≡ isRecord kind ⌝ }
+// Whether an operand of kind `top` can be read as a reference of kind k: it is one, or the read-only one to the same.
+fn reads(k: u32, top: u32) -> bool
+    ensures { λ r. ⌜ r ≡ Effects.reads k top ⌝ }
 {
-    kind % 4 == 1
-}
-
-// Whether a kind is a reference.
-fn is_reference(kind: u32) -> bool
-    ensures { λ r. ⌜ r ≡ isReference kind ⌝ }
-{
-    2 <= kind % 4
+    if top == k {
+        return true;
+    }
+    if top < 2 {
+        return false;
+    }
+    top - 2 == k
 }
 
 // The array's length. No code: a proof knows the length of an array by value, and of one behind a reference only through this call.
@@ -153,7 +150,7 @@ impl Stack {
         ensures { λ r. ⌜ view (now (kinds .entry)) r ≡ applied (effectIf (not (isRecord (topOf (view (now (kinds .entry)) self)))) (topOf (view (now (kinds .entry)) self) ∷ []) []) (view (now (kinds .entry)) self) ⌝ }
     {
         let top = self.top(kinds);
-        if is_record(top) {
+        if declarations::is_record(top) {
             return self.fail(refusals::WRONG_OPERAND);
         }
         self.take(kinds, top)
@@ -178,7 +175,7 @@ impl Stack {
         ensures { λ r. ⌜ view (now (kinds .exit)) r ≡ applied (effectIf (not (isRecord (localKind (now (table .entry)) own b))) [] (localKind (now (table .entry)) own b ∷ [])) (view (now (kinds .entry)) self) ⌝ }
     {
         let k = local_kind(table, own, b);
-        if is_record(k) {
+        if declarations::is_record(k) {
             return self.fail(refusals::WRONG_OPERAND);
         }
         self.push(kinds, k)
@@ -196,17 +193,21 @@ impl Stack {
         ensures { λ r. ⌜ view (now (kinds .exit)) r ≡ applied (effectIf (not (isReference (localKind (now (table .entry)) own b))) [] (referenceTo (localKind (now (table .entry)) own b) ∷ [])) (view (now (kinds .entry)) self) ⌝ }
     {
         let k = local_kind(table, own, b);
-        if is_reference(k) {
+        if declarations::is_reference(k) {
             return self.fail(refusals::WRONG_OPERAND);
         }
         self.push(kinds, k + 2)
     }
 
-    // ReadRef.
+    // ReadRef: a reference to a number, read-only or not.
     fn read_ref(self, kinds: &mut [u32; 16]) -> Self
-        ensures { λ r. ⌜ view (now (kinds .exit)) r ≡ applied (effect (numberRef ∷ []) (number ∷ [])) (view (now (kinds .entry)) self) ⌝ }
+        ensures { λ r. ⌜ view (now (kinds .exit)) r ≡ applied (effectIf (Effects.reads numberRef (topOf (view (now (kinds .entry)) self))) (topOf (view (now (kinds .entry)) self) ∷ []) (number ∷ [])) (view (now (kinds .entry)) self) ⌝ }
     {
-        self.take(kinds, NUMBER_REF).push(kinds, NUMBER)
+        let top = self.top(kinds);
+        if reads(NUMBER_REF, top) {
+            return self.take(kinds, top).push(kinds, NUMBER);
+        }
+        self.fail(refusals::WRONG_OPERAND)
     }
 
     // WriteRef: the reference is on top.
@@ -216,12 +217,16 @@ impl Stack {
         self.take(kinds, NUMBER_REF).take(kinds, NUMBER)
     }
 
-    // BorrowFld: b is type times 8 plus field.
+    // BorrowFld: b is type times 8 plus field. What is borrowed through a read-only reference is read-only.
     fn borrow_field(self, kinds: &mut [u32; 16], table: &[u8], named: TypeEntry, b: u16) -> Self
-        ensures { λ r. ⌜ view (now (kinds .exit)) r ≡ applied (effect (recordRef (b / 8) ∷ []) (referenceTo (rowKind (rowAt (now (table .entry)) (fieldRow named (b % 8)))) ∷ [])) (view (now (kinds .entry)) self) ⌝ }
+        ensures { λ r. ⌜ view (now (kinds .exit)) r ≡ applied (effectIf (Effects.reads (recordRef (b / 8)) (topOf (view (now (kinds .entry)) self))) (topOf (view (now (kinds .entry)) self) ∷ []) (alike (topOf (view (now (kinds .entry)) self)) (referenceTo (rowKind (rowAt (now (table .entry)) (fieldRow named (b % 8))))) ∷ [])) (view (now (kinds .entry)) self) ⌝ }
     {
-        self.take(kinds, record_ref(b / 8))
-            .push(kinds, field_reference(table, named, b))
+        let top = self.top(kinds);
+        if reads(declarations::record_ref(b / 8), top) {
+            return self.take(kinds, top)
+                .push(kinds, field_reference(table, named, b, top));
+        }
+        self.fail(refusals::WRONG_OPERAND)
     }
 
     // Pack: the fields.
@@ -229,14 +234,14 @@ impl Stack {
         ensures { λ r. ⌜ view (now (kinds .exit)) r ≡ applied (effect (fieldKinds (now (table .entry)) named) (recordOf b ∷ [])) (view (now (kinds .entry)) self) ⌝ }
     {
         self.take_rows(kinds, table, (named.row as usize) + 1, named.end as usize)
-            .push(kinds, record_of(b))
+            .push(kinds, declarations::record_of(b))
     }
 
     // Unpack: the fields.
     fn unpack(self, kinds: &mut [u32; 16], table: &[u8], named: TypeEntry, b: u16) -> Self
         ensures { λ r. ⌜ view (now (kinds .exit)) r ≡ applied (effect (recordOf b ∷ []) (fieldKinds (now (table .entry)) named)) (view (now (kinds .entry)) self) ⌝ }
     {
-        self.take(kinds, record_of(b))
+        self.take(kinds, declarations::record_of(b))
             .push_rows(kinds, table, (named.row as usize) + 1, named.end as usize)
     }
 
@@ -244,21 +249,24 @@ impl Stack {
     fn move_to(self, kinds: &[u32; 16], b: u16) -> Self
         ensures { λ r. ⌜ view (now (kinds .entry)) r ≡ applied (effect (recordOf b ∷ number ∷ []) []) (view (now (kinds .entry)) self) ⌝ }
     {
-        self.take(kinds, NUMBER).take(kinds, record_of(b))
+        self.take(kinds, NUMBER)
+            .take(kinds, declarations::record_of(b))
     }
 
     // MoveFrom.
     fn move_from(self, kinds: &mut [u32; 16], b: u16) -> Self
         ensures { λ r. ⌜ view (now (kinds .exit)) r ≡ applied (effect (number ∷ []) (recordOf b ∷ [])) (view (now (kinds .entry)) self) ⌝ }
     {
-        self.take(kinds, NUMBER).push(kinds, record_of(b))
+        self.take(kinds, NUMBER)
+            .push(kinds, declarations::record_of(b))
     }
 
     // BorrowGlobal.
     fn borrow_global(self, kinds: &mut [u32; 16], b: u16) -> Self
         ensures { λ r. ⌜ view (now (kinds .exit)) r ≡ applied (effect (number ∷ []) (recordRef b ∷ [])) (view (now (kinds .entry)) self) ⌝ }
     {
-        self.take(kinds, NUMBER).push(kinds, record_ref(b))
+        self.take(kinds, NUMBER)
+            .push(kinds, declarations::record_ref(b))
     }
 
     // Exists.
@@ -300,6 +308,17 @@ impl Stack {
             .push(kinds, NUMBER)
     }
 
+    // Freeze: a reference that can be written through becomes read-only.
+    fn freeze(self, kinds: &mut [u32; 16]) -> Self
+        ensures { λ r. ⌜ view (now (kinds .exit)) r ≡ applied (effectIf (isWritable (topOf (view (now (kinds .entry)) self))) (topOf (view (now (kinds .entry)) self) ∷ []) (frozen (topOf (view (now (kinds .entry)) self)) ∷ [])) (view (now (kinds .entry)) self) ⌝ }
+    {
+        let top = self.top(kinds);
+        if declarations::is_writable(top) {
+            return self.take(kinds, top).push(kinds, top + 2);
+        }
+        self.fail(refusals::WRONG_OPERAND)
+    }
+
     // One instruction in procedure `own`. `named` is the type that its operand names, `callee` the procedure.
     pub fn step(
         self,
@@ -335,6 +354,7 @@ impl Stack {
             format::BRANCH => self,
             format::BRANCH_COND => self.branch_cond(kinds),
             format::OP => self.op(kinds),
+            format::FREEZE => self.freeze(kinds),
             format::PAST_OPCODES..=255 => self.fail(refusals::WRONG_OPERAND),
         }
     }
@@ -367,19 +387,6 @@ impl Stack {
     }
 }
 
-// The kinds of a record and of a reference to one, by type.
-fn record_of(y: u16) -> u32
-    ensures { λ r. ⌜ r ≡ recordOf y ⌝ }
-{
-    4 * (y as u32) + 1
-}
-
-fn record_ref(y: u16) -> u32
-    ensures { λ r. ⌜ r ≡ recordRef y ⌝ }
-{
-    4 * (y as u32) + 3
-}
-
 // The kind of local b of a procedure.
 fn local_kind(table: &[u8], p: ProcedureEntry, b: u16) -> u32
     ensures { λ r. ⌜ r ≡ localKind (now (table .entry)) p b ⌝ }
@@ -387,10 +394,14 @@ fn local_kind(table: &[u8], p: ProcedureEntry, b: u16) -> u32
     declarations::row_kind(table::row_at(table, (p.row as usize) + 1 + (b as usize)))
 }
 
-// A reference to field b % 8 of a type.
-fn field_reference(table: &[u8], y: TypeEntry, b: u16) -> u32
-    ensures { λ r. ⌜ r ≡ referenceTo (rowKind (rowAt (now (table .entry)) (fieldRow y (b % 8)))) ⌝ }
+// A reference to field b % 8 of a type, borrowed through one of kind `top`: read-only where that is.
+fn field_reference(table: &[u8], y: TypeEntry, b: u16, top: u32) -> u32
+    ensures { λ r. ⌜ r ≡ alike top (referenceTo (rowKind (rowAt (now (table .entry)) (fieldRow y (b % 8))))) ⌝ }
 {
     let row = table::row_at(table, (y.row as usize) + 1 + ((b % 8) as usize));
-    4 * (row.b as u32) + (row.a as u32) + 2
+    let kind = 8 * (row.b as u32) + (row.a as u32) + 2;
+    if declarations::is_writable(top) {
+        return kind;
+    }
+    kind + 2
 }

@@ -1,4 +1,4 @@
--- What demand 3 speaks of happens in the history of one list over one table, by computation.
+-- What demand 3 speaks of happens in the history of one list over one table, and a guest reads a guarded number in that of another, by computation.
 use Prim.Native.Nat.{ℕ, zero, suc, _≤_}
 use mathlib.Core.Path.{refl, ap}
 use mathlib.Core.Bool.{Bool, true, false, false≢true}
@@ -8,12 +8,12 @@ use lib.Dec.{eqb}
 use lib.ListN.{take, drop}
 use native.Mathlib.Omega.{arith}
 use Rattle.reach.specs.Reach.{here as first}
-use Rattle.semantics.specs.Machine.{Value, num, obj, toField, Cell, gone, here, Entry, entry, Frame, frame, State, state, next}
+use Rattle.semantics.specs.Machine.{Value, num, obj, refer, toField, Cell, gone, here, Entry, entry, Frame, frame, State, state, next}
 use Rattle.semantics.specs.History.{base, Event, moment}
 use Rattle.semantics.specs.Run.{historyOf}
 use Rattle.semantics.specs.Words.{operand, Exists}
 use Rattle.semantics.specs.Claim.{none-left, also}
-use Rattle.examples.specs.Speaks.{Speaks, StopsAfterChange, Happens, Makes, BreaksUp, Publishes, Withdraws, Changes, HoldsAboveGuest, tableGuest, listGuest}
+use Rattle.examples.specs.Speaks.{Speaks, StopsAfterChange, Happens, Makes, BreaksUp, Publishes, Withdraws, Changes, HoldsAboveGuest, Reads, tableGuest, listGuest, tableLabel, listLabel}
 use Rattle.examples.proofs.Rules.{rules}
 
 -- whether a cell holds a record
@@ -55,7 +55,7 @@ made = (
 -- WriteRef in procedure 1
 abbrev writing : Event
 writing =
-    moment (state (frame 2 1 3 (toField 0 0 0 ∷ num 1 ∷ []) (none ∷ []) ∷ issuing 3 (some (num 7) ∷ some (obj 0 0) ∷ [])) (credit 500) [] 3) 13
+    moment (state (frame 2 1 3 (refer true (toField 0 0 0) ∷ num 1 ∷ []) (none ∷ []) ∷ issuing 3 (some (num 7) ∷ some (obj 0 0) ∷ [])) (credit 500) [] 3) 13
     (next (state (frame 2 1 4 [] (none ∷ []) ∷ issuing 3 (some (num 7) ∷ some (obj 0 0) ∷ [])) (credit 1) [] 3))
 
 held : Happens tableGuest listGuest (HoldsAboveGuest tableGuest)
@@ -64,7 +64,7 @@ held = (
   10,
   writing,
   refl,
-  (refl, (toField 0 0 0, operand (first refl), (0, 0, 0, refl, refl)), (frame 0 4 3 [] (some (num 7) ∷ some (obj 0 0) ∷ []), first refl, refl)),
+  (refl, (refer true (toField 0 0 0), operand (first refl), (0, 0, 0, refl, refl)), (frame 0 4 3 [] (some (num 7) ∷ some (obj 0 0) ∷ []), first refl, refl)),
 )
 
 changed : Happens tableGuest listGuest (Changes tableGuest)
@@ -162,4 +162,39 @@ speaks = record {
   withdrawn = withdrawn;
   broken-up = broken-up;
   stops = stops;
+}
+
+-- ReadRef in the guest's procedure 3, through what it was given
+pub reads : Reads tableLabel listLabel
+unfolding rules tableLabel listLabel
+reads = record {
+  accepted = refl;
+  good = refl;
+  read = (
+    12,
+    moment (state (frame 2 3 1 (refer false (toField 0 0 0) ∷ []) (none ∷ []) ∷ frame 1 1 4 [] (none ∷ []) ∷ []) (credit 500) (entry 0 7 0 ∷ []) 3) 32
+        (next (state (frame 2 3 2 (num 500 ∷ []) (none ∷ []) ∷ frame 1 1 4 [] (none ∷ []) ∷ []) (credit 500) (entry 0 7 0 ∷ []) 3)),
+    refl,
+    record {
+      id = 2;
+      procedure = 3;
+      at = 1;
+      under = [];
+      locals = none ∷ [];
+      frames = frame 1 1 4 [] (none ∷ []) ∷ [];
+      records = credit 500;
+      store = entry 0 7 0 ∷ [];
+      count = 3;
+      row = 32;
+      record-of = 0;
+      type = 0;
+      field = 0;
+      x = 500;
+      is = refl;
+      opcode = refl;
+      by-guest = refl;
+      guarded = refl;
+      there = record { fields = num 500 ∷ []; exists = refl; number = refl };
+    },
+  );
 }

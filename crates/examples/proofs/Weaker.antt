@@ -1,12 +1,12 @@
 -- A judge without the leaks pass would break demand 3, by computation: the guest's frame comes to hold a reference to the guarded kilos.
 use mathlib.Core.Path.{_≡_, refl}
-use mathlib.Core.Bool.{true≢false}
+use mathlib.Core.Bool.{true, true≢false}
 use mathlib.Core.List.{[], _∷_}
 use mathlib.Core.Option.{none, some}
 use lib.ListN.{getElem? as nth}
 use Rattle.reach.specs.Reach.{here as first}
 use Rattle.table.specs.Index.{indexOf}
-use Rattle.semantics.specs.Machine.{num, toField, here, entry, frame, state, next}
+use Rattle.semantics.specs.Machine.{num, refer, toField, here, entry, frame, state, next}
 use Rattle.semantics.specs.History.{Event, moment}
 use Rattle.semantics.specs.Run.{historyOf}
 use Rattle.semantics.specs.Words.{operand}
@@ -20,8 +20,8 @@ use Rattle.examples.proofs.Rules.{rules}
 -- the moment after the Call: the guest's frame, at StLoc, has the reference among its operands
 abbrev holding : Event
 holding =
-    moment (state (frame 1 2 2 (toField 0 0 0 ∷ []) (none ∷ none ∷ []) ∷ []) (here 0 (num 500 ∷ []) ∷ []) (entry 0 7 0 ∷ []) 3) 23
-    (next (state (frame 1 2 3 [] (none ∷ some (toField 0 0 0) ∷ []) ∷ []) (here 0 (num 500 ∷ []) ∷ []) (entry 0 7 0 ∷ []) 3))
+    moment (state (frame 1 2 2 (refer true (toField 0 0 0) ∷ []) (none ∷ none ∷ []) ∷ []) (here 0 (num 500 ∷ []) ∷ []) (entry 0 7 0 ∷ []) 3) 23
+    (next (state (frame 1 2 3 [] (none ∷ some (refer true (toField 0 0 0)) ∷ []) ∷ []) (here 0 (num 500 ∷ []) ∷ []) (entry 0 7 0 ∷ []) 3))
 
 happens : nth (historyOf (table rowsHandedOut) (table callsHandedOut)) 12 ≡ some holding
 unfolding rules
@@ -29,7 +29,7 @@ happens = refl
 
 not-safe : Safe (table rowsHandedOut) (indexOf (table rowsHandedOut)) holding → ⊥
 unfolding rules
-not-safe (safe s o) = true≢false (all-head (s .kept) (toField 0 0 0) (operand (first refl)) (0, 0, 0, refl, refl) .0)
+not-safe (safe s o) = true≢false (all-head (s .kept) (refer true (toField 0 0 0)) (operand (first refl)) (0, 0, 0, refl, refl) .0)
 
 pub breaks : BreaksWithoutLeaks (table rowsHandedOut) (table callsHandedOut)
 unfolding rules

@@ -8,7 +8,7 @@ use Rattle.table.specs.declared.Verdict.{Verdict}
 use Rattle.table.specs.declared.Verdict.the-variants.{Accepted, Refused}
 use Rattle.semantics.specs.Ascii.{ascii}
 use Rattle.semantics.specs.Run.{Ran, minText}
-use Rattle.examples.specs.Tables.{row, table, trusted, guest, type, number, guarded, public, private, parameter, local, code, pop, loadConst, mvLoc, cpLoc, stLoc, borrowFld, readRef, pack, moveTo, callProcedure, ret, branch, branchCond, subtract, call, argument, rowsS, rowsT, rowsRound, with-row, without-row, times, rowsLent, rowsTakesTwo, rowsMarkedOnFallThrough, rowsMarkedOnJump, rowsOverwrittenOnce, rowsOverwrittenTwice, rowsOps, rowsLoop, rowsClosed, rowsWritten, rowsTwo, rowsNested, rowsGuest, callsGuest, rowsRefilled, rowsEmptied, rowsReturned, rowsStale, rowsDeep, rowsMany, rowsFull}
+use Rattle.examples.specs.Tables.{row, table, trusted, guest, type, number, guarded, public, private, parameter, local, code, pop, loadConst, mvLoc, cpLoc, stLoc, borrowFld, readRef, pack, moveTo, callProcedure, ret, branch, branchCond, subtract, call, argument, rowsS, rowsT, rowsRound, with-row, without-row, times, rowsLent, rowsShown, rowsTakesTwo, rowsMarkedOnFallThrough, rowsMarkedOnJump, rowsOverwrittenOnce, rowsOverwrittenTwice, rowsOps, rowsLoop, rowsClosed, rowsWritten, rowsTwo, rowsNested, rowsGuest, callsGuest, rowsRefilled, rowsEmptied, rowsReturned, rowsStale, rowsDeep, rowsMany, rowsFull, result, borrowLoc, writeRef, freeze, rowsLabel, callsLabel, rowsSeen, rowsFrozenStale, rowsTakesOne}
 
 -- an example: the bytes of a table and its verdict; or a table, a call list and the length of a text buffer, with the answer and the text
 pub data Example : Type 0 where
@@ -44,13 +44,14 @@ judgingRows =
     ∷ gives (table (times 17 guest)) (Refused 3 16)
     ∷ gives (table (guest ∷ type ∷ times 9 number)) (Refused 3 10)
     ∷ gives (table (guest ∷ public ∷ times 17 (local 0 0) ++ (ret ∷ []))) (Refused 3 18)
-    -- 4: an unused byte; a parameter after another local; C of 256; opcode 20; Op 4; a guarded record
+    -- 4: an unused byte; a parameter after another local; C of 256; opcode 21; Op 4; a guarded record; sort 6
     ∷ gives (table (guest ∷ row 2 1 0 0 0 ∷ [])) (Refused 4 1)
     ∷ gives (table (guest ∷ public ∷ local 0 0 ∷ parameter 0 0 ∷ [])) (Refused 4 3)
     ∷ gives (table (guest ∷ public ∷ row 5 0 0 256 0 ∷ [])) (Refused 4 2)
-    ∷ gives (table (guest ∷ public ∷ code 20 0 ∷ [])) (Refused 4 2)
+    ∷ gives (table (guest ∷ public ∷ code 21 0 ∷ [])) (Refused 4 2)
     ∷ gives (table (guest ∷ public ∷ code 19 4 ∷ [])) (Refused 4 2)
     ∷ gives (table (trusted ∷ type ∷ type ∷ row 3 1 0 1 0 ∷ [])) (Refused 4 3)
+    ∷ gives (table (guest ∷ public ∷ local 6 0 ∷ ret ∷ [])) (Refused 4 2)
     -- two faults on one row: a 17th module with A = 2; on two rows: the upper one decides
     ∷ gives (table (times 16 guest ++ (row 1 2 0 0 0 ∷ []))) (Refused 3 16)
     ∷ gives (table (guest ∷ row 2 1 0 0 0 ∷ row 9 0 0 0 0 ∷ [])) (Refused 4 1)
@@ -121,6 +122,41 @@ judgingOverwritten =
     ∷ gives (table rowsOverwrittenTwice) (Accepted 23)
     ∷ []
 
+-- read-only references
+unfoldable pub judgingReadOnly : List Example
+judgingReadOnly =
+    -- T with Freeze before Ret and a result of sort 4; without the Freeze; a guarded field borrowed through a read-only reference
+    gives (table (rowsS ++ (public ∷ parameter 3 0 ∷ result 4 0 ∷ mvLoc 0 ∷ borrowFld 0 0 ∷ freeze ∷ ret ∷ []))) (Accepted 17)
+    ∷ gives (table (rowsS ++ (public ∷ parameter 3 0 ∷ result 4 0 ∷ mvLoc 0 ∷ borrowFld 0 0 ∷ ret ∷ []))) (Refused 7 15)
+    ∷ gives (table (rowsS ++ (public ∷ parameter 5 0 ∷ result 4 0 ∷ mvLoc 0 ∷ borrowFld 0 0 ∷ ret ∷ []))) (Accepted 16)
+    -- WriteRef through sort 4; through what is borrowed from sort 5
+    ∷ gives (table (guest ∷ public ∷ parameter 4 0 ∷ loadConst 1 ∷ mvLoc 0 ∷ writeRef ∷ ret ∷ [])) (Refused 7 5)
+    ∷ gives (table (rowsS ++ (public ∷ parameter 5 0 ∷ loadConst 1 ∷ mvLoc 0 ∷ borrowFld 0 0 ∷ writeRef ∷ ret ∷ []))) (Refused 7 15)
+    -- 5 given for 3, and 3 for 5; Freeze of a number and of what is frozen; BorrowLoc of a local of sort 4
+    ∷ gives (table (guest ∷ type ∷ public ∷ parameter 5 0 ∷ mvLoc 0 ∷ callProcedure 1 ∷ ret ∷ private ∷ parameter 3 0 ∷ ret ∷ [])) (Refused 7 5)
+    ∷ gives (table (guest ∷ type ∷ public ∷ parameter 3 0 ∷ mvLoc 0 ∷ callProcedure 1 ∷ ret ∷ private ∷ parameter 5 0 ∷ ret ∷ [])) (Refused 7 5)
+    ∷ gives (table (guest ∷ public ∷ loadConst 1 ∷ freeze ∷ pop ∷ ret ∷ [])) (Refused 7 3)
+    ∷ gives (table (guest ∷ public ∷ parameter 4 0 ∷ mvLoc 0 ∷ freeze ∷ pop ∷ ret ∷ [])) (Refused 7 4)
+    ∷ gives (table (guest ∷ public ∷ parameter 4 0 ∷ borrowLoc 0 ∷ pop ∷ ret ∷ [])) (Refused 7 3)
+    -- 6: a type of sort 5 that is not there; 4: an operand of Freeze
+    ∷ gives (table (guest ∷ public ∷ parameter 5 0 ∷ ret ∷ [])) (Refused 6 2)
+    ∷ gives (table (guest ∷ public ∷ parameter 2 0 ∷ mvLoc 0 ∷ code 20 1 ∷ pop ∷ ret ∷ [])) (Refused 4 4)
+    ∷ []
+
+-- leaks: writable and read-only references to a guarded field
+unfoldable pub judgingHanded : List Example
+judgingHanded =
+    -- the reference from which a read-only one was made stays marked
+    gives (table (rowsLent ++ (mvLoc 0 ∷ borrowFld 0 0 ∷ stLoc 1 ∷ cpLoc 1 ∷ freeze ∷ pop ∷ mvLoc 1 ∷ callProcedure 1 ∷ ret ∷ rowsTakesOne))) (Refused 13 14)
+    -- a read-only one to a guarded field above, and below, a writable one to a parameter's number; a writable one to a guarded field below it
+    ∷ gives (table (rowsShown ++ (mvLoc 1 ∷ mvLoc 0 ∷ borrowFld 0 0 ∷ callProcedure 1 ∷ ret ∷ private ∷ parameter 2 0 ∷ parameter 4 0 ∷ ret ∷ []))) (Accepted 15)
+    ∷ gives (table (rowsShown ++ (mvLoc 0 ∷ borrowFld 0 0 ∷ mvLoc 1 ∷ callProcedure 1 ∷ ret ∷ private ∷ parameter 4 0 ∷ parameter 2 0 ∷ ret ∷ []))) (Accepted 15)
+    ∷ gives (table (rowsLent ++ (cpLoc 0 ∷ borrowFld 0 0 ∷ mvLoc 0 ∷ freeze ∷ borrowFld 0 0 ∷ callProcedure 1 ∷ ret ∷ private ∷ parameter 2 0 ∷ parameter 4 0 ∷ ret ∷ []))) (Refused 13 12)
+    -- a local that holds one to a guarded field on one of two ways
+    ∷ gives (table (trusted ∷ type ∷ guarded ∷ public ∷ parameter 5 0 ∷ parameter 4 0 ∷ parameter 0 0
+    ∷ mvLoc 2 ∷ branchCond 5 ∷ cpLoc 0 ∷ borrowFld 0 0 ∷ stLoc 1 ∷ mvLoc 1 ∷ callProcedure 1 ∷ ret ∷ private ∷ parameter 4 0 ∷ ret ∷ [])) (Accepted 18)
+    ∷ []
+
 -- call lists: refusals 15 to 17, every opcode, and stops 31 to 35
 unfoldable pub runningCalls : List Example
 runningCalls =
@@ -163,6 +199,11 @@ runningCalls =
     ∷ prints (table rowsRefilled) (table (call 0 100 ∷ argument 41 ∷ [])) (line "call 0 done 42")
     ∷ prints (table rowsEmptied) (table (call 0 100 ∷ argument 41 ∷ [])) (line "call 0 stop 35 row 7")
     ∷ prints (table rowsReturned) (table (call 0 100 ∷ [])) (line "call 0 stop 35 row 4")
+    -- a guest reads kilos through a read-only reference that it is given, and one that is returned to it; 31 before Freeze
+    ∷ prints (table rowsLabel) (table callsLabel) (line "call 0 done" ++ line "call 1 done 500" ++ line "call 2 done 500" ++ line "call 3 stop 31 row 16" ++ line "store 0 7 500")
+    -- what is written through another reference is read; 35: at the reading, not at Freeze
+    ∷ prints (table rowsSeen) (table (call 0 100 ∷ argument 41 ∷ [])) (line "call 0 done 9")
+    ∷ prints (table rowsFrozenStale) (table (call 0 100 ∷ [])) (line "call 0 stop 35 row 18")
     -- 35: the record was unpacked and its room is used again
     ∷ prints (table rowsStale) (table (call 0 100 ∷ argument 7 ∷ [])) (line "call 0 stop 35 row 19")
     -- a refused table; 15: a short row, an argument first; 16: no such procedure, no budget; 17
@@ -187,7 +228,7 @@ runningLimits =
 
 -- all of them
 unfoldable pub examples : List Example
-examples = judgingRows ++ judgingWalks ++ judgingMarks ++ judgingOverwritten ++ runningCalls ++ runningLimits
+examples = judgingRows ++ judgingWalks ++ judgingMarks ++ judgingOverwritten ++ judgingReadOnly ++ judgingHanded ++ runningCalls ++ runningLimits
 
 -- what an example is answered with
 pub data Answer : Type 0 where

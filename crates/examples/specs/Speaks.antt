@@ -1,25 +1,26 @@
 -- What demand 3 speaks of does happen: said of the history of a list of calls over an accepted table, in the words of demand 3, with such a table and list.
-use Prim.Native.Nat.{ℕ}
+use Prim.Native.Nat.{ℕ, _+_}
 use mathlib.Core.Path.{_≡_}
 use mathlib.Core.Bool.{Bool, true, false}
 use mathlib.Core.List.{List, [], _∷_, _++_}
 use mathlib.Core.Logic.{_≢_}
-use mathlib.Core.Option.{some}
+use mathlib.Core.Option.{Option, some}
 use lib.ListN.{getElem? as nth}
 use Rattle.table.specs.declared.Verdict.the-variants.{Accepted}
-use Rattle.table.specs.Rows.{rowCount}
+use Rattle.table.specs.Format.{opReadRef}
+use Rattle.table.specs.Rows.{rowCount, rowAt}
 use Rattle.table.specs.Index.{indexOf}
 use Rattle.judging.specs.Judging.{judgeOf}
 use Rattle.reach.specs.Reach.{Mem}
-use Rattle.semantics.specs.Machine.{Value, Cell, Entry, Frame, frame, State, state, next, finished, stopped, stuck}
+use Rattle.semantics.specs.Machine.{toField, Value, num, refer, Cell, Entry, Frame, frame, State, state, next, finished, stopped, stuck}
 use Rattle.semantics.specs.Calls.{listOf}
 use Rattle.semantics.specs.History.{Base, base, Event, moment, ended}
 use Rattle.semantics.specs.Run.{historyOf}
 use Rattle.semantics.specs.Words.{guest, guardedField, GuardedReference, Holds, Exists, NumberIn, IsEntry}
 use Rattle.semantics.specs.Claim.{All, Restored}
-use Rattle.examples.specs.Tables.{table, rowsGuest, callsGuest}
+use Rattle.examples.specs.Tables.{table, rowsGuest, callsGuest, rowsLabel, callsLabel}
 
--- The words of demand 3 that ask about a table, at the table t: a guest's frame or not, a guarded field, a reference to one, what a stop restores
+-- The words of demand 3 that ask about a table, at the table t: a guest's frame or not, a guarded field, a writable reference to one, what a stop restores
 abbrev pub OfGuest : List ℕ → Frame → Bool → Type 0
 OfGuest t (frame id p i ops ls) answer = guest t p ≡ answer
 
@@ -58,12 +59,36 @@ abbrev pub Changes : List ℕ → Event → Type 0
 Changes t = Step (λ (rs : List Cell) (st : List Entry) (rs′ : List Cell) (st′ : List Entry).
     (id y j x x′ : ℕ) × Guarded t y j × NumberIn rs id y j x × NumberIn rs′ id y j x′ × (x ≢ x′))
 
--- A moment at which the running frame is a trusted module's and holds a reference to a guarded field, while a guest's frame waits below it
+-- A moment at which the running frame is a trusted module's and holds a writable reference to a guarded field, while a guest's frame waits below it
 abbrev pub HoldsAboveGuest : List ℕ → Event → Type 0
 HoldsAboveGuest t (moment (state (f ∷ fs) rs st n) row o) =
     OfGuest t f false × ((v : Value) × Holds f v × ToGuarded t v) × ((g : Frame) × Mem g fs × OfGuest t g true)
 HoldsAboveGuest t (moment (state [] rs st n) row o) = ⊥
 HoldsAboveGuest t (ended before s row o after) = ⊥
+
+-- A step of a guest that reads the number x of a guarded field, through a read-only reference to it
+pub record GuestReads (t : List ℕ) (e : Event) : Type 0 where
+  pub id : ℕ
+  pub procedure : ℕ
+  pub at : ℕ
+  pub under : List Value
+  pub locals : List (Option Value)
+  pub frames : List Frame
+  pub records : List Cell
+  pub store : List Entry
+  pub count : ℕ
+  pub row : ℕ
+  pub record-of : ℕ
+  pub type : ℕ
+  pub field : ℕ
+  pub x : ℕ
+  pub is : e
+      ≡ moment (state (frame id procedure at (refer false (toField record-of type field) ∷ under) locals ∷ frames) records store count) row
+      (next (state (frame id procedure (at + 1) (num x ∷ under) locals ∷ frames) records store count))
+  pub opcode : rowAt t row .a ≡ opReadRef
+  pub by-guest : guest t procedure ≡ true
+  pub guarded : guardedField t type field ≡ true
+  pub there : NumberIn records record-of type field x
 
 -- any moment of a call, not its end
 abbrev pub IsMoment : Event → Type 0
@@ -113,9 +138,22 @@ module _ (t l : List ℕ) where
     pub broken-up : Happens BreaksUp
     pub stops : StopsAfterChange
 
+  -- the same, and a guest reads a guarded number
+  pub record Reads : Type 0 where
+    pub accepted : judgeOf t ≡ Accepted (rowCount t)
+    pub good : listOf t (indexOf t) l ≡ Accepted (rowCount l)
+    pub read : Happens (GuestReads t)
+
 -- A table and a list: a guest lets a credit be issued, written and published, and then lets it be withdrawn twice, at which it stops
 unfoldable pub tableGuest : List ℕ
 tableGuest = table rowsGuest
 
 unfoldable pub listGuest : List ℕ
 listGuest = table callsGuest
+
+-- A table and a list: a guest reads a credit's kilos through a read-only reference
+unfoldable pub tableLabel : List ℕ
+tableLabel = table rowsLabel
+
+unfoldable pub listLabel : List ℕ
+listLabel = table callsLabel

@@ -4,7 +4,7 @@ use mathlib.Core.List.{List, [], _∷_, _++_}
 use lib.ListN.{take, drop}
 use Rattle.laws.specs.Numbers.{toLe}
 use Rattle.semantics.specs.Calls.{callRow, argumentRow}
-use Rattle.table.specs.Format.{moduleKind, typeKind, fieldKind, procedureKind, localKind, resultKind, instructionKind, opPop, opLoadConst, opMvLoc, opCpLoc, opStLoc, opBorrowLoc, opReadRef, opWriteRef, opBorrowFld, opPack, opUnpack, opMoveTo, opMoveFrom, opBorrowGlobal, opExists, opCall, opRet, opBranch, opBranchCond, opOp}
+use Rattle.table.specs.Format.{moduleKind, typeKind, fieldKind, procedureKind, localKind, resultKind, instructionKind, opPop, opLoadConst, opMvLoc, opCpLoc, opStLoc, opBorrowLoc, opReadRef, opWriteRef, opBorrowFld, opPack, opUnpack, opMoveTo, opMoveFrom, opBorrowGlobal, opExists, opCall, opRet, opBranch, opBranchCond, opOp, opFreeze}
 
 -- the bytes of a row
 unfoldable pub row : ℕ → ℕ → ℕ → ℕ → ℕ → List ℕ
@@ -125,6 +125,9 @@ equal = code opOp 2
 unfoldable pub less : List ℕ
 less = code opOp 3
 
+unfoldable pub freeze : List ℕ
+freeze = code opFreeze 0
+
 -- rows of a call list: a call of a procedure with a budget, and an argument
 unfoldable pub call : ℕ → ℕ → List ℕ
 call procedure budget = row callRow 0 procedure budget 0
@@ -164,7 +167,11 @@ times (suc n) r = r ∷ times n r
 unfoldable pub rowsLent : List (List ℕ)
 rowsLent = trusted ∷ type ∷ guarded ∷ public ∷ parameter 3 0 ∷ parameter 2 0 ∷ parameter 0 0 ∷ []
 
--- after it, procedures that take one reference to a number, and two
+-- a procedure with a read-only reference to a credit and a reference to a number; its code starts at row 6
+unfoldable pub rowsShown : List (List ℕ)
+rowsShown = trusted ∷ type ∷ guarded ∷ public ∷ parameter 5 0 ∷ parameter 2 0 ∷ []
+
+-- after these, procedures that take one reference to a number, and two
 unfoldable pub rowsTakesOne : List (List ℕ)
 rowsTakesOne = private ∷ parameter 2 0 ∷ ret ∷ []
 
@@ -308,6 +315,37 @@ rowsStale =
     ∷ mvLoc 1 ∷ unpack 0 ∷ pack 0 ∷ stLoc 1
     ∷ loadConst 1 ∷ mvLoc 2 ∷ writeRef
     ∷ mvLoc 1 ∷ mvLoc 0 ∷ moveTo 0 ∷ ret ∷ []
+
+-- read-only references. S; procedure 1 gives the kilos of an address to a guest, read-only (Freeze is row 16), and returns what the guest gives; procedure 2
+-- returns a read-only reference to them; the guest's procedure 3 reads what it is given, and procedure 4 what procedure 2 returns
+unfoldable pub rowsLabel : List (List ℕ)
+rowsLabel =
+    rowsS
+    ++ (public ∷ parameter 0 0 ∷ result 0 0 ∷ mvLoc 0 ∷ borrowGlobal 0 ∷ borrowFld 0 0 ∷ freeze ∷ callProcedure 3 ∷ ret
+    ∷ public ∷ parameter 0 0 ∷ result 4 0 ∷ mvLoc 0 ∷ borrowGlobal 0 ∷ freeze ∷ borrowFld 0 0 ∷ ret ∷ guest
+    ∷ public ∷ parameter 4 0 ∷ result 0 0 ∷ mvLoc 0 ∷ readRef ∷ ret
+    ∷ public ∷ parameter 0 0 ∷ result 0 0 ∷ mvLoc 0 ∷ callProcedure 2 ∷ readRef ∷ ret ∷ [])
+
+-- a credit is published under 7; the guest reads its kilos in both ways, and the last call ends before Freeze
+unfoldable pub callsLabel : List (List ℕ)
+callsLabel = call 0 100 ∷ argument 7 ∷ call 1 100 ∷ argument 7 ∷ call 4 100 ∷ argument 7 ∷ call 1 3 ∷ argument 7 ∷ []
+
+-- a read-only reference to a local, into which 9 is written through another
+unfoldable pub rowsSeen : List (List ℕ)
+rowsSeen =
+    guest ∷ public ∷ parameter 0 0 ∷ local 4 0 ∷ result 0 0
+    ∷ borrowLoc 0 ∷ freeze ∷ stLoc 1
+    ∷ loadConst 9 ∷ borrowLoc 0 ∷ writeRef
+    ∷ mvLoc 1 ∷ readRef ∷ ret ∷ []
+
+-- a reference to the kilos of a credit that was broken up is frozen, and then read (row 18)
+unfoldable pub rowsFrozenStale : List (List ℕ)
+rowsFrozenStale =
+    trusted ∷ type ∷ guarded ∷ public ∷ local 1 0 ∷ local 2 0 ∷ result 0 0
+    ∷ loadConst 500 ∷ pack 0 ∷ stLoc 0
+    ∷ borrowLoc 0 ∷ borrowFld 0 0 ∷ stLoc 1
+    ∷ mvLoc 0 ∷ unpack 0 ∷ pop
+    ∷ mvLoc 1 ∷ freeze ∷ readRef ∷ ret ∷ []
 
 -- limits: a procedure that calls itself n times, one frame in the other (the Call is row 9)
 unfoldable pub rowsDeep : List (List ℕ)

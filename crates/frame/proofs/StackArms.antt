@@ -1,20 +1,20 @@
--- Pop, LoadConst, MvLoc, CpLoc, StLoc and BorrowLoc are what the machine on lists does.
+-- Pop, LoadConst, MvLoc, CpLoc, StLoc, BorrowLoc and Freeze are what the machine on lists does.
 use Prim.Native.Nat.{ℕ, _-_, _*_, _%_, _<_, _≤_}
 use mathlib.Core.Path.{_≡_, refl, _∙_}
 use mathlib.Core.Logic.{inl, inr}
-use mathlib.Core.List.{List}
+use mathlib.Core.List.{List, [], _∷_}
 use native.Mathlib.Omega.{arith}
 use borrow.Author.Tests.{lt-ltb}
-use lib.ListN.{length, getElem? as nth}
+use lib.ListN.{length, drop, getElem? as nth}
 use Rattle.state.specs.declared.Operand.{Operand}
 use Rattle.state.specs.declared.Operand.the-variants.{Empty, Number, Refer}
 use Rattle.state.specs.declared.Reference.the-variants.{Local}
 use Rattle.state.specs.declared.frames.State.{State}
 use Rattle.state.specs.Layout.{allCells}
-use Rattle.state.specs.Frames.{pushed, pushedIn}
+use Rattle.state.specs.Frames.{pushed, pushedIn, goneOn}
 use Rattle.machine.specs.Machine.{held, top, doings}
 use Rattle.machine.specs.Views.{operandsIn, localsIn, Same}
-use Rattle.machine.proofs.Views.{same-refl, same-trans, length-below, putLocal, length-pushed, length-put, pushed-same, put-same, push-operands, push-locals, put-locals, put-operands, drop-is, load-is, store-is as stored-is}
+use Rattle.machine.proofs.Views.{same-refl, same-trans, length-down, length-below, putLocal, length-pushed, length-put, pushed-same, put-same, push-operands, push-locals, put-locals, put-operands, drop-is, load-is, store-is as stored-is}
 use Rattle.frame.specs.Turning.{after}
 use Rattle.frame.specs.Stack.{poppedBy, constOf, moveOf, copyOf, storeOf, borrowOf}
 use Rattle.frame.specs.Meaning.{outcomeOf, doing, Stands, Kept}
@@ -26,6 +26,11 @@ moveCells cs s b = putLocal (pushedIn cs s (held (nth (localsIn cs s) b))) s b E
 
 abbrev storeCells : List Operand → State → ℕ → List Operand
 storeCells cs s b = putLocal cs s b (top (operandsIn cs s))
+
+-- the top operand on the others
+top-back : (xs : List Operand) → 1 ≤ length xs → top xs ∷ drop 1 xs ≡ xs
+top-back [] h = absurd (omega arith)
+top-back (x ∷ xs) h = refl
 
 module _ (cs : List Operand) (s : State) (st : Stands cs s) where
   -- Pop
@@ -105,3 +110,12 @@ module _ (cs : List Operand) (s : State) (st : Stands cs s) where
 
   pub borrow-kept : (b kind : ℕ) → s .height < 16 → Kept cs s (borrowOf cs s b kind)
   borrow-kept b kind room = push-kept cs s st (s .height) (Refer (Local (s .serial) (s .depth) (b % 256) (kind % 65536))) room
+
+  -- Freeze: the operand stays, since a cell does not tell whether a reference is read-only
+  pub freeze-is : (k b d kind others : ℕ) → 1 ≤ s .height → outcomeOf k (after (goneOn s) cs) ≡ doing b d kind 1 others cs s 20
+  unfolding doings
+  freeze-is k b d kind others some =
+      goes-is cs s st cs (same-refl cs 512 1824) (s .height) _ k (same-refl cs 0 (32 * s .depth)) ∙ rw (next-is cs s st, top-back (operandsIn cs s) (rw (length-down cs _ (s .height)) some))
+
+  pub freeze-kept : Kept cs s (after (goneOn s) cs)
+  freeze-kept = goes-kept cs s st cs (same-refl cs 512 1824) _ _ refl

@@ -24,7 +24,7 @@ use Rattle.semantics.specs.Machine.{Value, obj, Cell, Entry, Frame, frame, stat
 use Rattle.semantics.specs.Claim.{All, none-left, also, Owned, IsNumber}
 use Rattle.semantics.proofs.Counts.{held-set, same-one, alive-gone}
 use Rattle.semantics.proofs.Changes.{clash}
-use Rattle.semantics.proofs.Sorts.{to-reference, reference-is}
+use Rattle.semantics.proofs.Sorts.{to-writable, number-writable, record-writable, as-reference}
 use Rattle.semantics.proofs.Typing.{Fit, fnum, fobj, floc, ffld, frec, CellOk}
 use Rattle.semantics.proofs.Places.{slot-full}
 use Rattle.semantics.proofs.Frames.{FrameOk, typeOf, cell-at}
@@ -129,9 +129,9 @@ module _ (t : List ℕ) (judged : Judged t (indexOf t)) where
     fit-low h st fs l types records owned e c (fobj {id = r} {y} a q) =
         ⊎-elim (λ z. absurd (omega (arith, owned r, held-set r os l none (some (obj r y)) e, same-one r, alive-gone r h y z)))
         (λ z. omega (arith, q, judged .declared y (z .2) .low)) (cell-at t (indexOf t) T h r y (rw types a) records)
-    fit-low h st fs l types records owned e c (floc {c = d} a x r q) = absurd (true≢false (sym (to-reference d r) ∙ ap isReference (sym q) ∙ c))
-    fit-low h st fs l types records owned e c (ffld a d g q) = absurd (true≢false (ap isReference (sym q) ∙ c))
-    fit-low h st fs l types records owned e c (frec {y} a q) = absurd (true≢false (sym (reference-is y) ∙ ap isReference (sym q) ∙ c))
+    fit-low h st fs l types records owned e c (floc {w} {c = d} a x r q) = absurd (true≢false (sym (as-reference w _ (to-writable d r)) ∙ ap isReference (sym q) ∙ c))
+    fit-low h st fs l types records owned e c (ffld {w} a d g q) = absurd (true≢false (sym (as-reference w _ number-writable) ∙ ap isReference (sym q) ∙ c))
+    fit-low h st fs l types records owned e c (frec {w} {y} a q) = absurd (true≢false (sym (as-reference w _ (record-writable y)) ∙ ap isReference (sym q) ∙ c))
 
     pub kind-low : (h : List Cell) (st : List Entry) (fs : List Frame) → map typeOf h ≡ T → All (CellOk t (indexOf t) T) h → Owned (frame id p i vs os ∷ fs) h st
         → rowAt (codeOf t (procedureIn (indexOf t) p)) i .a ≡ opBorrowLoc → localKind t (procedureIn (indexOf t) p) (rowAt (codeOf t (procedureIn (indexOf t) p)) i .b) < 65536

@@ -19,7 +19,7 @@ use Rattle.state.specs.declared.Reference.the-variants.{Local}
 use Rattle.state.specs.declared.frames.State.{State}
 use Rattle.state.specs.Coding.{secondOf}
 use Rattle.state.specs.Layout.{operandCell, roomCell}
-use Rattle.state.specs.Frames.{topAt, goneTo}
+use Rattle.state.specs.Frames.{topAt, goneTo, goneOn}
 use Rattle.state.specs.Rooms.{isLive}
 use Rattle.machine.specs.Machine.{doings, backTo}
 use Rattle.machine.specs.Runs.{did, mstep}
@@ -32,7 +32,7 @@ use Rattle.step.specs.Step.{turns, turnOf}
 use Rattle.frame.specs.Meaning.{outcomeOf, doing, Stands, Kept}
 use Rattle.laws.proofs.Cases.{Each, _▸_, each-listed}
 use Rattle.step.proofs.Shapes.{Shape, turn-shape}
-use Rattle.frame.proofs.StackArms.{pop-is, pop-kept, const-is, const-kept, move-is, move-kept, copy-is, copy-kept, store-is, store-kept, borrow-is, borrow-kept}
+use Rattle.frame.proofs.StackArms.{pop-is, pop-kept, const-is, const-kept, move-is, move-kept, copy-is, copy-kept, store-is, store-kept, borrow-is, borrow-kept, freeze-is, freeze-kept}
 use Rattle.references.proofs.TargetsArms.{read-is, read-kept, write-is, write-kept, borrow-field-is, borrow-field-kept}
 use Rattle.records.proofs.PackingArms.{pack-is, pack-kept, unpack-is, unpack-kept}
 use Rattle.records.proofs.PublishedArms.{move-to-is, move-to-kept, move-from-is, move-from-kept, global-is, global-kept, exists-is, exists-kept}
@@ -131,6 +131,7 @@ module _ (t : List ℕ) (J : Judged t (indexOf t)) (cs : List Operand) (s : Stat
         ▸ (λ e. let n : many ≡ 0 = takes-is t J cs s l 17 e in rw n (branch-is cs s h results (now .b) (now .d) kind _))
         ▸ (λ e. let n : many ≡ 1 = takes-is t J cs s l 18 e in rw n (branch-cond-is cs s h results (now .b) (now .d) kind _))
         ▸ (λ e. let n : many ≡ 2 = takes-is t J cs s l 19 e in rw n (op-is cs s h results (now .b) (now .d) kind _))
+        ▸ (λ e. let n : many ≡ 1 = takes-is t J cs s l 20 e in rw n (freeze-is cs s h results (now .b) (now .d) kind _ (some-taken 20 1 e n)))
         ▸ tt
 
     pub step-is : outcomeOf results (stepAt t (indexOf t) cs s) ≡ mstep t (indexOf t) (viewOf cs s)
@@ -162,6 +163,7 @@ module _ (t : List ℕ) (J : Judged t (indexOf t)) (cs : List Operand) (s : Stat
         ▸ (λ e. branch-kept cs s h (now .b))
         ▸ (λ e. branch-cond-kept cs s h (now .b))
         ▸ (λ e. op-kept cs s h (now .b))
+        ▸ (λ e. freeze-kept cs s h)
         ▸ tt
 
     pub step-kept : Kept cs s (stepAt t (indexOf t) cs s)
@@ -191,6 +193,7 @@ module _ (t : List ℕ) (J : Judged t (indexOf t)) (cs : List Operand) (s : Stat
       ▸ (λ e c. stays cs s (goneTo s (now .b)) refl refl)
       ▸ (λ e c. branches cs s h (now .b))
       ▸ (λ e c. operates cs s h (now .b))
+      ▸ (λ e c. stays cs s (goneOn s) refl refl)
       ▸ tt
 
   pub step-untouched : changesMemory (rowOf t (indexOf t) s .a) ≡ false → Untouched cs s (stepAt t (indexOf t) cs s)

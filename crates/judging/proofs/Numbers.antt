@@ -22,14 +22,15 @@ use Rattle.table.specs.Verdicts.{andThen, valueOf, passOver}
 use Rattle.table.specs.Index.{indexOf}
 use Rattle.rows.specs.declared.Above.{Above}
 use Rattle.rows.specs.Rows as rows
-use Rattle.declarations.specs.Program.{codePass, codeOf, localCount}
+use Rattle.declarations.specs.Program.{number, codePass, codeOf, localCount}
 use Rattle.declarations.proofs.Passes.{refused-accepted, refused-number, pass-first}
 use Rattle.names.specs.Names as names
 use Rattle.effects.specs.Kinds.{Kinds, good, bad, failed, taken, pushed, takenAll, pushedAll, faultAfter}
 use Rattle.effects.specs.Effects.{Effect, applied, kindsAfter}
+use Rattle.operands.specs.Flow.{effectIn}
 use Rattle.operands.specs.Operands.{lastOfBlock, after, kindsBefore, codeFault, operandsOf, operandsWith}
 use Rattle.locals.specs.Locals.{needsFull, leavesEmpty, leavesRecord, leavesSome, localFault, localsOf}
-use Rattle.steps.specs.Steps.{stepAt, marksOf}
+use Rattle.steps.specs.Steps.{marksOf}
 use Rattle.leaks.specs.Leaks.{guardedMarks, inTrusted, someMarked, leakIn, leakFrom, leakFault, leaksOf}
 use Rattle.judging.specs.Judging.{judgeOf, inOrder, passes, UpToOperands}
 use Rattle.judging.proofs.Laws.{accepted-here}
@@ -181,9 +182,9 @@ locals-number t = code-number 11 12 _ (λ q. local-low t) (indexOf t) t
 leak-low : (t : List ℕ) (ix : Index) (q : ℕ) (p : ProcedureEntry) (i : ℕ) → Within 13 14 (leakFault t ix q p i)
 unfolding leakFault leakFrom leakIn
 leak-low t ix q p i =
-    let s = stepAt t ix (guardedMarks t) p i in
-    let marked = someMarked (marksOf t ix (guardedMarks t) q p) i (s .takes) in
-    when (inTrusted t ix p) _ (one (eqb (s .opcode) opCall && marked) 13 14 13 _ (omega arith) (one (eqb (s .opcode) opRet && marked) 13 14 14 0 (omega arith) (inl refl)))
+    let op = rowAt (codeOf t p) i .a in
+    let marked = someMarked (marksOf t ix (guardedMarks t) q p) i (effectIn t ix p number i .takes) in
+    when (inTrusted t ix p) _ (one (eqb op opCall && marked) 13 14 13 _ (omega arith) (one (eqb op opRet && marked) 13 14 14 0 (omega arith) (inl refl)))
   where
     when : (b : Bool) (f : ℕ) → Within 13 14 f → Within 13 14 (cond b f 0)
     when true f w = w

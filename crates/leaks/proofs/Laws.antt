@@ -1,26 +1,31 @@
 -- Laws of the search for where marks come to, and of the faults that follow from it.
 use Prim.Native.Nat.{ℕ, zero, suc, _+_, _-_, _*_, _/_, _%_, _<_, _≤_}
-use mathlib.Core.Path.{_≡_, refl, sym, ap, ap₂, fun-ext, _∙_}
-use mathlib.Core.Bool.{Bool, true, false, cond, _||_, or-true}
+use mathlib.Core.Path.{_≡_, refl, sym, ap, fun-ext, _∙_}
+use mathlib.Core.Bool.{Bool, true, false, cond, _&&_, or-true, false≢true}
 use mathlib.Core.List.{List, [], _∷_}
-use native.Mathlib.Decide.{ℕ-discrete}
-use native.Mathlib.Nat.{zero-add}
-use native.Mathlib.Numerals.{add-one}
+use native.Mathlib.Decide.{decLt}
+use native.Mathlib.Nat.{zero-add, add-zero}
 use native.Mathlib.Omega.{arith}
+use lib.Dec.{eqb}
 use lib.ListN.{length, getD, replicate, length-replicate}
 use Rattle.laws.proofs.First.{clean-if}
 use Rattle.reach.specs.Reach.{Mem, here, there, Inside, mark}
 use Rattle.reach.specs.Search.{Searched, Visit, after, visitOf, visitAll}
 use Rattle.reach.proofs.Laws.{length-mark}
 use Rattle.reach.proofs.Search.{visits-none, visits-more, search-from, taken, finish, tail-le, queued-below}
+use Rattle.table.specs.declared.Row.{Row}
 use Rattle.table.specs.declared.Verdict.{Verdict}
 use Rattle.table.specs.declared.Verdict.the-variants.{Accepted}
 use Rattle.table.specs.declared.index.Index.{Index}
+use Rattle.table.specs.declared.index.TypeEntry.{TypeEntry}
 use Rattle.table.specs.declared.index.ProcedureEntry.{ProcedureEntry}
 use Rattle.table.specs.Rows.{rowCount, rowAt}
-use Rattle.declarations.specs.Program.{codeOf, codeVerdict, localCount, parametersEnd, parameterCount}
+use Rattle.declarations.specs.Program.{number, numberRef, rowKind, kindsOf, procedureIn, codeOf, codeVerdict, localCount, parametersEnd, parameterCount}
 use Rattle.declarations.specs.Limits.{overLimits, limited}
 use Rattle.declarations.proofs.Laws.{verdictOf, on-part}
+use Rattle.effects.specs.Effects.{effectOf}
+use Rattle.effects.proofs.Laws.{kinds-none, kinds-first}
+use Rattle.operands.specs.Flow.{effectIn}
 use Rattle.flow.specs.Steps.{Step, below, nextOf, nexts}
 use Rattle.flow.specs.Places.{nodesOf, succs, reached, within, markMoves, placeMoves, startPlaces, markNodes, operandMarked}
 use Rattle.flow.proofs.Same.{marks-same}
@@ -29,11 +34,10 @@ use Rattle.flow.specs.declared.Going.{Going}
 use Rattle.flow.specs.Moves.{GoesOn}
 use Rattle.flow.proofs.Laws.{graph-inside, next-below}
 use Rattle.locals.specs.Sets.{noLocals, contains}
-use Rattle.locals.proofs.Laws.{verdict-same}
 use Rattle.steps.specs.declared.Shape.{Shape}
 use Rattle.steps.specs.Steps.{stepAt, marksOf}
 use Rattle.steps.specs.Shapes.{viewStep, noShape}
-use Rattle.steps.proofs.Laws.{parameters-few, marks-are}
+use Rattle.steps.proofs.Laws.{length-kinds, parameters-few, marks-are}
 use Rattle.leaks.specs.declared.Shapes.{Shapes}
 use Rattle.leaks.specs.Leaks.{guardedMarks, inTrusted, someMarked, leakIn, leakFrom, leakFault}
 use Rattle.leaks.specs.Within.{stepsOf, leakWithin}
@@ -41,22 +45,32 @@ use Rattle.leaks.proofs.Moves.{moves-below}
 
 -- marked operands
 module _ (nodes : List Bool) (i : ℕ) where
-  pub some-none : someMarked nodes i 0 ≡ false
+  pub some-none : someMarked nodes i [] ≡ false
   unfolding someMarked
   some-none = refl
 
-  pub some-found : (j n : ℕ) → j < n → operandMarked nodes i j ≡ true → someMarked nodes i n ≡ true
+  pub some-first : (k : ℕ) (ks : List ℕ) → (eqb k numberRef && operandMarked nodes i (length ks)) ≡ true → someMarked nodes i (k ∷ ks) ≡ true
   unfolding someMarked
-  some-found j zero h e = absurd (omega arith)
-  some-found j (suc n) h e = go (ℕ-discrete j n) (λ l. some-found j n l e)
-    where
-      go : Dec (j ≡ n) → (j < n → someMarked nodes i n ≡ true) → (someMarked nodes i n || operandMarked nodes i n) ≡ true
-      go (yes q) rest = rw (← q, e) (or-true (someMarked nodes i j))
-      go (no q) rest = rw (rest (omega arith))
+  some-first k ks e = rw e
 
-  pub some-next : (n : ℕ) → someMarked nodes i n ≡ false → operandMarked nodes i n ≡ false → someMarked nodes i (n + 1) ≡ false
+  pub some-next : (k : ℕ) (ks : List ℕ) → (eqb k numberRef && operandMarked nodes i (length ks)) ≡ false → someMarked nodes i ks ≡ false → someMarked nodes i (k ∷ ks) ≡ false
   unfolding someMarked
-  some-next n e h = rw (add-one, e, h)
+  some-next k ks e h = rw (e, h)
+
+  -- what rows declare has a marked one if the last of them do
+  pub some-later : (t : List ℕ) (d from to : ℕ) → someMarked nodes i (kindsOf t (from + d) to) ≡ true → someMarked nodes i (kindsOf t from to) ≡ true
+  unfolding someMarked
+  some-later t zero from to e = rw (add-zero from) at e
+  some-later t (suc d) from to e = go (decLt from to) (some-later t d (from + 1) to (let s : from + suc d ≡ from + 1 + d = omega arith in rw s at e))
+    where
+      go : Dec (from < to) → someMarked nodes i (kindsOf t (from + 1) to) ≡ true → someMarked nodes i (kindsOf t from to) ≡ true
+      go (yes h) later = rw (kinds-first t from to h, later) (or-true (eqb (rowKind (rowAt t from)) numberRef && operandMarked nodes i (length (kindsOf t (from + 1) to))))
+      go (no h) later = absurd (false≢true (rw (kinds-none t (from + suc d) to (omega arith)) at e))
+
+  -- the operand that the row before row j declares, under those of the rows from j on
+  pub row-marked : (t : List ℕ) (j to : ℕ) (row : Row) {b : Bool} → row ≡ rowAt t (j - 1) → 0 < j → j ≤ to → b ≡ (eqb (rowKind row) numberRef && operandMarked nodes i (to - 1 - (j - 1)))
+      → (eqb (rowKind (rowAt t (j - 1))) numberRef && operandMarked nodes i (length (kindsOf t j to))) ≡ b
+  row-marked t j to row e some low h = let z : to - 1 - (j - 1) ≡ to - j = omega arith in rw (length-kinds t j to, ← e, ← z) (sym h)
 
 -- The places where walks start, visited one after the other: those of the first l parameters are left.
 module _ (given : ℕ → Bool) (l : ℕ) (w y : Visit) (rest : w ≡ visitAll y (startPlaces given l)) where
@@ -163,12 +177,14 @@ count-less was false e h k l = rw e (omega arith)
 
 -- the fault of an instruction, from what the code has of it
 pub fault-is :
-    (nodes : List Bool) (shapes : Shapes) (shape : Shape) (i : ℕ) {f : ℕ}
-    → shape ≡ getD (shapes .at) i noShape
-    → f ≡ leakIn nodes (viewStep shape) i
-    → leakIn nodes (stepsOf shapes i) i ≡ f
-unfolding stepsOf
-fault-is nodes shapes shape i e h = rw (← e) (sym h)
+    (t c : List ℕ) (ix : Index) (p : ProcedureEntry) (nodes : List Bool) (row : Row) (callee : ProcedureEntry) (i : ℕ) {f : ℕ}
+    → c ≡ codeOf t p
+    → row ≡ rowAt c i
+    → callee ≡ procedureIn ix (row .b)
+    → ((named : TypeEntry) → f ≡ leakIn nodes (row .a) (effectOf t p named callee row number .takes) i)
+    → leakFrom t ix p nodes i ≡ f
+unfolding leakFrom effectIn
+fault-is t c ix p nodes row callee i part e q h = rw (← part, ← e, ← q) (sym (h _))
 
 -- no local is in the empty set, so no parameter starts marked
 none-contained : contains noLocals ≡ (λ (l : ℕ). false)
@@ -187,11 +203,10 @@ pub procedure-verdict :
     → params ≡ parametersEnd t p - (p .row + 1)
     → ((i : ℕ) → i < rowCount c → stepsOf shapes i ≡ stepAt t ix (guardedMarks t) p i)
     → nodes ≡ markNodes (nexts c) (stepsOf shapes) (contains noLocals) params (rowCount c)
-    → v ≡ codeVerdict (λ (i : ℕ). leakIn nodes (stepsOf shapes i) i) (p .code) (rowCount c)
+    → v ≡ codeVerdict (leakFrom t ix p nodes) (p .code) (rowCount c)
     → v ≡ codeVerdict (leakFrom t ix p (marksOf t ix (guardedMarks t) q p)) (p .code) (rowCount c)
-unfolding leakFrom parameterCount
-procedure-verdict t c ix q p shapes nodes params v e n same found h =
-    h ∙ verdict-same _ _ (p .code) (rowCount c) (λ i l. ap₂ (λ (ns : List Bool) (s : Step). leakIn ns s i) marks (same i l))
+unfolding parameterCount
+procedure-verdict t c ix q p shapes nodes params v e n same found h = h ∙ rw marks
   where
     marks : nodes ≡ marksOf t ix (guardedMarks t) q p
     marks = found ∙ rw (none-contained, n) (marks-same (nexts c) _ _ _ _ (rowCount c) same ∙ rw (e, marks-are t ix (guardedMarks t) q p))

@@ -5,10 +5,9 @@ use mathlib.Core.Path.{_≡_, refl, sym, ap, _∙_}
 use mathlib.Core.Bool.{Bool, true, false, not, false≢true, _&&_, _||_, and-false}
 use mathlib.Core.Logic.{_⊎_, inl, inr}
 use native.Mathlib.Decide.{decLt, ℕ-discrete}
-use lib.ListN.{getD, List·getD-eq-default}
+use lib.ListN.{length, getD, List·getD-eq-default}
 use mathlib.Core.List.{List, [], _∷_, List·Memᴰ·eq-of-singleton}
 use native.Mathlib.Nat.{zero-add}
-use native.Mathlib.Numerals.{add-one}
 use native.Mathlib.Omega.{arith}
 use borrow.Author.Tests.{leb-true, le-leb, lt-leb, eqb-true, not-true}
 use lib.Dec.{eqb, leb}
@@ -24,10 +23,11 @@ use Rattle.table.specs.declared.Row.{Row}
 use Rattle.table.specs.declared.index.TypeEntry.{TypeEntry}
 use Rattle.table.specs.Format.{opBorrowFld, opCall, opRet}
 use Rattle.table.specs.Rows.{rowCount, rowAt}
-use Rattle.declarations.specs.Program.{codeOf, codeVerdict, resultKinds, parameterCount}
+use Rattle.declarations.specs.Program.{number, numberRef, codeOf, codeVerdict, resultKinds, parameterCount}
 use Rattle.declarations.specs.Limits.{overLimits, limited}
 use Rattle.declarations.proofs.Laws.{verdictOf, limited-in, limited-out}
 use Rattle.effects.specs.Effects.{effects}
+use Rattle.operands.specs.Flow.{effectIn}
 use Rattle.flow.specs.Steps.{Step, nexts}
 use Rattle.flow.specs.Places.{freshPlaces, within, markMoves, placeMoves, startPlaces, markNodes, operandMarked}
 use Rattle.flow.specs.Paths.{Path, atFirst, onwards}
@@ -142,15 +142,15 @@ module _ (next : ℕ → List ℕ) (step : ℕ → Step) (params n : ℕ) (some 
           absurd (omega (arith, path-bare (r .2) .1))
       go false e = refl
 
-  some-unmarked : (i count : ℕ) → count ≤ 16 → someMarked (markNodes next step (λ (l : ℕ). false) params n) i count ≡ false
-  some-unmarked i zero h = some-none _ i
-  some-unmarked i (suc j) h = rw add-one at (some-next _ i j (some-unmarked i j (omega arith)) (operand-unmarked i j (omega arith)))
+  some-unmarked : (i : ℕ) (ks : List ℕ) → length ks ≤ 16 → someMarked (markNodes next step (λ (l : ℕ). false) params n) i ks ≡ false
+  some-unmarked i [] h = some-none _ i
+  some-unmarked i (k ∷ ks) h = some-next _ i k ks (rw (operand-unmarked i (length ks) (omega arith)) (and-false (eqb k numberRef))) (some-unmarked i ks (omega arith))
 
 -- an instruction that is quiet earns nothing where no operand is marked
-no-leak : (nodes : List Bool) (s : Step) (i : ℕ) → Quiet s → ((n : ℕ) → n ≤ 16 → someMarked nodes i n ≡ false) → leakIn nodes s i ≡ 0
+no-leak : (nodes : List Bool) (s : Step) (takes : List ℕ) (i : ℕ) → s .takes ≡ length takes → Quiet s → ((ks : List ℕ) → length ks ≤ 16 → someMarked nodes i ks ≡ false) → leakIn nodes (s .opcode) takes i ≡ 0
 unfolding leakIn Quiet
-no-leak nodes s i (fresh, inl few) none = rw (none (s .takes) few, and-false (eqb (s .opcode) opCall), and-false (eqb (s .opcode) opRet))
-no-leak nodes s i (fresh, inr others) none = rw (others .0, others .1)
+no-leak nodes s takes i e (fresh, inl few) none = rw (none takes (omega (arith, e, few)), and-false (eqb (s .opcode) opCall), and-false (eqb (s .opcode) opRet))
+no-leak nodes s takes i e (fresh, inr others) none = rw (others .0, others .1)
 
 -- a procedure whose instructions are quiet is accepted
 module _ (t c : List ℕ) (ix : Index) (q : ℕ) (p : ProcedureEntry) (part : c ≡ codeOf t p) (some : 0 < rowCount c) where
@@ -161,12 +161,12 @@ module _ (t c : List ℕ) (ix : Index) (q : ℕ) (p : ProcedureEntry) (part : c 
   Clean = Accepted (rowCount c) ≡ codeVerdict (leakFrom t ix p (marksOf t ix (guardedMarks t) q p)) (p .code) (rowCount c)
 
   clean-verdict : ((i : ℕ) → i < rowCount c → Quiet (step i)) → Clean
-  unfolding codeVerdict leakFrom
+  unfolding codeVerdict leakFrom stepAt stepOf effectIn
   clean-verdict each = sym (clean-if Accepted _ _ 0 (rowCount c) (λ j lo hi. clean j (omega arith)) ∙ ap Accepted (zero-add (rowCount c)))
     where
       clean : (j : ℕ) → j < rowCount c → leakFrom t ix p (marksOf t ix (guardedMarks t) q p) j ≡ 0
       clean j l =
-          rw (marks-are t ix (guardedMarks t) q p, ← part) (no-leak _ (step j) j (each j l) (some-unmarked (nexts c) step (parameterCount t p) (rowCount c) some (next-below c) (λ i h. quiet-fresh (step i) (each i h)) j))
+          no-leak _ (step j) (effectIn t ix p number j .takes) j refl (each j l) (λ ks few. rw (marks-are t ix (guardedMarks t) q p, ← part) (some-unmarked (nexts c) step (parameterCount t p) (rowCount c) some (next-below c) (λ i h. quiet-fresh (step i) (each i h)) j ks few))
 
   -- so is one whose code can make none, and one in which none is made
   pub quiet-verdict : isQuiet c p ≡ true → Clean

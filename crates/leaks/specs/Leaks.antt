@@ -1,9 +1,9 @@
 -- The leaks pass: refusals 13 and 14 of document 01 ("escape analysis" in the field), in trusted modules only.
-use Prim.Native.Nat.{ℕ, zero, suc, _%_}
+use Prim.Native.Nat.{ℕ, _%_}
 use mathlib.Core.Bool.{Bool, false, cond, _&&_, _||_}
-use mathlib.Core.List.{List}
+use mathlib.Core.List.{List, [], _∷_}
 use lib.Dec.{eqb}
-use lib.ListN.{getD}
+use lib.ListN.{length, getD}
 use Rattle.table.specs.declared.Row.{Row}
 use Rattle.table.specs.declared.Verdict.{Verdict}
 use Rattle.table.specs.declared.index.Index.{Index}
@@ -14,16 +14,17 @@ use Rattle.table.specs.Rows.{rowAt}
 use Rattle.table.specs.Index.{indexOf}
 use Rattle.table.specs.Refusals.{markGiven, markReturned}
 use Rattle.table.specs.Flags.{isTrusted, isGuarded}
-use Rattle.declarations.specs.Program.{fieldRow, codePass}
-use Rattle.flow.specs.Steps.{Step}
+use Rattle.declarations.specs.Program.{number, numberRef, fieldRow, codeOf, codePass}
+use Rattle.operands.specs.Flow.{effectIn}
 use Rattle.flow.specs.Places.{operandMarked}
-use Rattle.steps.specs.Steps.{Marking, stepAt, marksOf}
+use Rattle.steps.specs.Steps.{Marking, marksOf}
 
 -- whether BorrowFld borrows a guarded field
 unfoldable pub borrowsGuarded : List ℕ → TypeEntry → Row → Bool
 borrowsGuarded t named row = eqb (row .a) opBorrowFld && isGuarded (rowAt t (fieldRow named (row .b % 8)))
 
--- marked is a reference made by BorrowFld of a guarded field; no parameter starts marked, and marks go with copies through locals alone
+-- A walk's mark stands on a reference made by BorrowFld of a guarded field, read-only or not; 13 and 14 ask of writable ones alone. No parameter starts
+-- marked, and marks go with copies through locals alone, so that what Freeze gives is unmarked
 abbrev pub guardedMarks : List ℕ → Marking
 guardedMarks t = record {
   starts = λ (q l : ℕ). false;
@@ -38,22 +39,23 @@ trustedAt t row = isTrusted (rowAt t row)
 unfoldable pub inTrusted : List ℕ → Index → ProcedureEntry → Bool
 inTrusted t ix p = trustedAt t (getD (ix .«module_rows») (p .owner) 0)
 
--- whether some one of the first n operands is marked on arriving at instruction i, on some walk
-unfoldable pub someMarked : List Bool → ℕ → ℕ → Bool
-someMarked nodes i zero = false
-someMarked nodes i (suc n) = someMarked nodes i n || operandMarked nodes i n
+-- Whether some walk arrives at instruction i with a mark on a writable reference, among operands of these kinds, the last on top. A read-only reference is
+-- never marked: one that BorrowFld of a guarded field made does not count
+unfoldable pub someMarked : List Bool → ℕ → List ℕ → Bool
+someMarked nodes i [] = false
+someMarked nodes i (k ∷ ks) = (eqb k numberRef && operandMarked nodes i (length ks)) || someMarked nodes i ks
 
--- 13: a marked reference given to a Call; 14: a marked reference returned
-unfoldable pub leakIn : List Bool → Step → ℕ → ℕ
-leakIn nodes s i =
-    cond (eqb (s .opcode) opCall && someMarked nodes i (s .takes)) markGiven
-    (cond (eqb (s .opcode) opRet && someMarked nodes i (s .takes)) markReturned 0)
+-- 13: a marked reference given to a Call; 14: a marked reference returned; by opcode and the kinds that the instruction takes
+unfoldable pub leakIn : List Bool → ℕ → List ℕ → ℕ → ℕ
+leakIn nodes op takes i =
+    cond (eqb op opCall && someMarked nodes i takes) markGiven
+    (cond (eqb op opRet && someMarked nodes i takes) markReturned 0)
 
 -- of procedure q, whose entry is p, in a table with this index
 module _ (t : List ℕ) (ix : Index) where
   -- the number that instruction i earns in a trusted module, from where marks come to
   unfoldable pub leakFrom : ProcedureEntry → List Bool → ℕ → ℕ
-  leakFrom p nodes i = leakIn nodes (stepAt t ix (guardedMarks t) p i) i
+  leakFrom p nodes i = leakIn nodes (rowAt (codeOf t p) i .a) (effectIn t ix p number i .takes) i
 
   unfoldable pub leakFault : ℕ → ProcedureEntry → ℕ → ℕ
   leakFault q p = let nodes = marksOf t ix (guardedMarks t) q p in λ (i : ℕ). cond (inTrusted t ix p) (leakFrom p nodes i) 0

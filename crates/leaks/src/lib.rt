@@ -1,16 +1,18 @@
 // The leaks pass: refusals 13 and 14.
 ghost use mathlib.Core.Path.{_≡_};
-ghost use mathlib.Core.Bool.{true, false, cond};
+ghost use mathlib.Core.Bool.{true, false, cond, _&&_};
 ghost use mathlib.Core.List.{[], _∷_};
 ghost use Prim.Native.Nat.{ℕ, _+_, _*_, _≤_, _<_};
+ghost use lib.Dec.{eqb};
 ghost use lib.ListN.{length};
 ghost use Rattle.laws.specs.Lists.{every};
 ghost use Rattle.reach.specs.Search.{after, visitAll};
 ghost use Rattle.table.specs.Rows.{rowAt, rowCount};
-ghost use Rattle.declarations.specs.Program.{codeOf, codeVerdict};
+ghost use Rattle.declarations.specs.Program.{number, numberRef, rowKind, kindsOf, codeOf, codeVerdict};
+ghost use Rattle.effects.specs.Effects.{effectOf};
 ghost use Rattle.declarations.specs.Limits.{limited};
 ghost use Rattle.flow.specs.Steps.{nexts};
-ghost use Rattle.flow.specs.Places.{markPlaces, markMoves, within, markNodes, startPlaces};
+ghost use Rattle.flow.specs.Places.{markPlaces, markMoves, within, markNodes, startPlaces, operandMarked};
 ghost use Rattle.flow.specs.Moves.{placesOf, GoesOn};
 ghost use Rattle.locals.specs.Sets.{contains};
 ghost use Rattle.steps.specs.Steps.{stepOf, stepAt, marksOf};
@@ -308,52 +310,84 @@ fn is_quiet(code: &[u8], own: ProcedureEntry) -> bool
     true
 }
 
-// Whether some one of the first `count` operands is marked on arriving at instruction i.
-fn some_marked(nodes: &[bool], i: usize, count: usize) -> bool
-    requires { ⌜ (i < 256) × (count < 65536) ⌝ }
-    ensures { λ r. ⌜ r ≡ someMarked (now (nodes .entry)) i count ⌝ }
+// Whether the operand that a row declares, with so many above it, is a writable reference to a number and marked on arriving at instruction i.
+fn is_marked(nodes: &[bool], i: usize, row: Row, above: usize) -> bool
+    requires { ⌜ (i < 256) × (above ≤ 65536) ⌝ }
+    ensures { λ r. ⌜ r ≡ (eqb (rowKind row) numberRef && operandMarked (now (nodes .entry)) i above) ⌝ }
 {
-    let mut j = 0;
-    while j < count {
-        let at = 33 * i + (j + 17);
-        if at < nodes.len() {
-            if nodes[at] {
-                return true;
-            }
-        }
-        j += 1;
+    if declarations::row_kind(row) != declarations::NUMBER_REF {
+        return false;
+    }
+    let at = 33 * i + (above + 17);
+    if at < nodes.len() {
+        return nodes[at];
     }
     false
 }
 
-// The number that an instruction earns, or 0.
-fn fault_at(nodes: &[bool], shape: Shape, i: usize) -> u8
-    requires { ⌜ i < 256 ⌝ }
-    ensures { λ r. ⌜ r ≡ leakIn (now (nodes .entry)) (viewStep shape) i ⌝ }
+// Whether some one of the operands that the rows from `from` to before `to` declare, the last on top, is such a one.
+fn some_marked(table: &[u8], nodes: &[bool], i: usize, from: usize, to: usize) -> bool
+    requires { ⌜ (i < 256) × (to ≤ 65536) ⌝ }
+    ensures { λ r. ⌜ r ≡ someMarked (now (nodes .entry)) i (kindsOf (now (table .entry)) from to) ⌝ }
 {
-    if shape.opcode == format::CALL {
-        if some_marked(nodes, i, shape.takes as usize) {
+    let mut j = to;
+    while from < j {
+        j -= 1;
+        if is_marked(nodes, i, table::row_at(table, j), to - 1 - j) {
+            return true;
+        }
+    }
+    false
+}
+
+// The number that an instruction earns, or 0. `callee` is the procedure that its operand names; a type that it names does not matter.
+fn fault_at(
+    table: &[u8],
+    nodes: &[bool],
+    row: Row,
+    own: ProcedureEntry,
+    callee: ProcedureEntry,
+    i: usize,
+) -> u8
+    requires { ⌜ i < 256 ⌝ }
+    ensures { λ r. ⌜ ((named : TypeEntry) → r ≡ leakIn (now (nodes .entry)) (row .a) (effectOf (now (table .entry)) own named callee row number .takes) i) ⌝ }
+{
+    if row.a == format::CALL {
+        let end = declarations::parameters_end(table, callee);
+        if some_marked(table, nodes, i, (callee.row as usize) + 1, end) {
             return refusals::MARK_GIVEN;
         }
         return 0;
     }
-    if shape.opcode == format::RET {
-        if some_marked(nodes, i, shape.takes as usize) {
+    if row.a == format::RET {
+        if some_marked(table, nodes, i, own.results as usize, own.code as usize) {
             return refusals::MARK_RETURNED;
         }
     }
     0
 }
 
-// The instructions of a procedure, n of them.
-fn judge_code(nodes: &[bool], shapes: Shapes, own: ProcedureEntry, n: usize) -> Verdict
-    requires { ⌜ n ≤ 256 ⌝ }
-    ensures { λ r. ⌜ r ≡ codeVerdict (λ (i : ℕ). leakIn (now (nodes .entry)) (stepsOf shapes i) i) (own .code) n ⌝ }
+// The instructions of a procedure, whose code is the part `code`.
+fn judge_code(
+    table: &[u8],
+    code: &[u8],
+    nodes: &[bool],
+    own: ProcedureEntry,
+    index: Index,
+) -> Verdict
+    requires { ⌜ (now code ≡ codeOf (now table) own) × (rowCount (now code) ≤ 256) ⌝ }
+    ensures { λ r. ⌜ r ≡ codeVerdict (leakFrom (now (table .entry)) index own (now (nodes .entry))) (own .code) (rowCount (now (code .entry))) ⌝ }
 {
+    let n = code.len() / format::ROW_BYTES;
     let mut i = 0;
     while i < n {
-        let shape = shapes.at[i];
-        let fault = fault_at(nodes, shape, i);
+        let row = table::row_at(code, i);
+        let mut callee = ProcedureEntry::NONE;
+        let called = row.b as usize;
+        if called < format::MAX_PROCEDURES {
+            callee = index.procedure_entries[called];
+        }
+        let fault = fault_at(table, nodes, row, own, callee, i);
         if fault != 0 {
             return Verdict::Refused(fault, (own.code as usize) + i);
         }
@@ -399,7 +433,7 @@ fn judge_procedure(
         params,
         LocalSet::EMPTY,
     );
-    judge_code(&nodes[..end], shapes, own, n)
+    judge_code(table, code, &nodes[..end], own, index)
 }
 
 // Whether a module, whose row is `row`, is trusted.

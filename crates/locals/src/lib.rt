@@ -206,7 +206,7 @@ fn is_record_local(table: &[u8], p: ProcedureEntry, l: usize) -> bool
     requires { ⌜ l < 65536 ⌝ }
     ensures { λ r. ⌜ r ≡ isRecord (localKind (now (table .entry)) p l) ⌝ }
 {
-    declarations::row_kind(table::row_at(table, (p.row as usize) + 1 + l)) % 4 == 1
+    declarations::is_record(declarations::row_kind(table::row_at(table, (p.row as usize) + 1 + l)))
 }
 
 // The locals of a procedure that are records.

@@ -2,7 +2,7 @@
 use Prim.Native.Nat.{ℕ, zero, suc, _-_}
 use mathlib.Core.Path.{_≡_, refl, sym, _∙_}
 use mathlib.Core.Bool.{Bool, true, false, cond}
-use mathlib.Core.List.{List, [], _∷_}
+use mathlib.Core.List.{List, _∷_}
 use mathlib.Core.Option.{Option, some}
 use lib.ListN.{length, getD, getElem? as nth}
 use Rattle.table.specs.declared.Row.{Row}
@@ -26,7 +26,7 @@ use Rattle.machine.specs.Represents.{ShowsAll, ShowsFrames, and-frame, R
 use Rattle.machine.specs.Runs.{takesAt, did, mstep, mrow, MEnd, mend, monward, mgo}
 use Rattle.machine.proofs.Simulates.{taken-split, split-shows, same-doing}
 
--- how many operands are taken does not depend on what Pop finds
+-- how many operands are taken does not depend on the top operand
 takes-same : (t : List ℕ) (p i : ℕ) (ops : List Value) → length (effectAt t (indexOf t) p i ops .takes) ≡ takesAt t (indexOf t) p i
 unfolding effectAt takesAt
 takes-same t p i ops =

@@ -12,8 +12,8 @@ use Rattle.arithmetic.specs.declared.Calculated.{Calculated}
 use Rattle.arithmetic.specs.declared.Calculated.the-variants.{Value as Gives, OutOfRange, Unknown}
 use Rattle.arithmetic.specs.Arithmetic.{calculation}
 use Rattle.semantics.specs.Machine as Rules
-use Rattle.semantics.specs.Machine.{Value, num, obj, Cell, gone, here, Entry, entry, Frame, frame, state, Outcome, next, stopped, stuck, content, localOf, liveCount, Target, aNumber, inCell, target, writeFrames, writeRecords}
-use Rattle.semantics.specs.Step.{pushedOn, Taken, missing, took, alsoTaken, taken, one, two, withNumber, withRecord, numberAt, recordAt, fieldsAt, withLocal, isObject, fillable, noneHeld, nothingUnder, fieldReference, underKey, startLocals, returned, push, pushAndSet, pushWithRecords, pushWithStore, lead, calculated, actions}
+use Rattle.semantics.specs.Machine.{Ref, Value, num, obj, refer, writable, Cell, gone, here, Entry, entry, Frame, frame, state, Outcome, next, stopped, stuck, content, localOf, liveCount, Target, aNumber, inCell, target, writeFrames, writeRecords}
+use Rattle.semantics.specs.Step.{pushedOn, Taken, missing, took, alsoTaken, taken, one, two, withNumber, withRecord, withReference, numberAt, recordAt, fieldsAt, withLocal, isObject, fillable, noneHeld, nothingUnder, fieldReference, underKey, startLocals, returned, push, pushAndSet, pushWithRecords, pushWithStore, lead, calculated, actions}
 use Rattle.semantics.proofs.Changes.{clash}
 use Rattle.semantics.proofs.Typing.{_⊑_, snoc-more, snoc-last}
 use Rattle.state.specs.declared.Reference.{Reference}
@@ -160,9 +160,9 @@ module _ (R D : List ℕ) (b d kind others id p i : ℕ) (ops ls : List Operand)
       → SameOutcome R D (asReference x (λ (r : Reference). numberFrom (leadsTo b d kind (length us) others id p i ops ls ms rooms (length rs) es n r) (k r))) (numberAt (lead b d kind others us id p i rest os fs rs st n v) f)
   through k f number h = never
   through k f (whole e) h = never
-  through k f (toALocal {f = g} {d = e} {l} {k = c} q) h = target-go (k (Local g e l c)) f (leads-same inside standing (toALocal {k = c} q)) (h (Local g e l c) (toALocal q))
-  through k f (toAField {s} {r} {y} {j} q) h = target-go (k (Field s r y j)) f (leads-same inside standing (toAField {y = y} q)) (h (Field s r y j) (toAField q))
-  through k f (toARecord {s} {r} {y} q) h = target-go (k (Whole s r y)) f (leads-same inside standing (toARecord {y = y} q)) (h (Whole s r y) (toARecord q))
+  through k f (toALocal {w} {f = g} {d = e} {l} {k = c} q) h = target-go (k (Local g e l c)) f (leads-same inside standing (toALocal {w = w} {k = c} q)) (h (Local g e l c) (toALocal q))
+  through k f (toAField {w} {s} {r} {y} {j} q) h = target-go (k (Field s r y j)) f (leads-same inside standing (toAField {w = w} {y = y} q)) (h (Field s r y j) (toAField q))
+  through k f (toARecord {w} {s} {r} {y} q) h = target-go (k (Whole s r y)) f (leads-same inside standing (toARecord {w = w} {y = y} q)) (h (Whole s r y) (toARecord q))
 
   -- one or two operands taken
   one-go : (ws : List Value) (f : Value → Outcome) (m : MOutcome) → ((u : Value) → ws ≡ u ∷ [] → SameOutcome R D m (f u)) → SameOutcome R D m (one ws f)
@@ -245,28 +245,28 @@ module _ (R D : List ℕ) (b d kind others id p i : ℕ) (ops ls : List Operand)
   unfolding doings actions
   same-field = one-go us _ _ (λ u q. go (the-top u q))
     where
-      field-go : (s r y j : ℕ) {x : Operand} {o : Option Value} → nth R s ≡ some r → Shows R D x o
-          → SameOutcome R D (fieldOf s r y j x λ (x : Operand). on b d kind (length us) others id p i ops ls ms rooms (length rs) es n (x ∷ [])) (fieldReference s y j o λ (w : Value). push b d kind others us id p i rest os fs rs st n (w ∷ []))
-      field-go s r y j e empty = never
-      field-go s r y j e number = same-push (and (toAField e) no-more)
-      field-go s r y j e (whole q) = same-push (and (toARecord q) no-more)
-      field-go s r y j e (toALocal q) = never
-      field-go s r y j e (toAField q) = never
-      field-go s r y j e (toARecord q) = never
+      field-go : (m : Bool) (s r y j : ℕ) {x : Operand} {o : Option Value} → nth R s ≡ some r → Shows R D x o
+          → SameOutcome R D (fieldOf s r y j x λ (x : Operand). on b d kind (length us) others id p i ops ls ms rooms (length rs) es n (x ∷ [])) (fieldReference s y j o λ (w : Ref). push b d kind others us id p i rest os fs rs st n (refer m w ∷ []))
+      field-go m s r y j e empty = never
+      field-go m s r y j e number = same-push (and (toAField e) no-more)
+      field-go m s r y j e (whole q) = same-push (and (toARecord q) no-more)
+      field-go m s r y j e (toALocal q) = never
+      field-go m s r y j e (toAField q) = never
+      field-go m s r y j e (toARecord q) = never
 
       found : {x : Reference} {u : Value} → Shows R D (Refer x) (some u)
           → SameOutcome R D (recordFrom (leadsTo b d kind (length us) others id p i ops ls ms rooms (length rs) es n x) λ (a c : ℕ) (xs : List Operand). fieldOf a c (b / 8) (b % 8) (held (nth xs (b % 8))) λ (x : Operand). on b d kind (length us) others id p i ops ls ms rooms (length rs) es n (x ∷ []))
-          (recordAt (lead b d kind others us id p i rest os fs rs st n u) λ (a : ℕ) (fields : List Value). fieldReference a (b / 8) (b % 8) (nth fields (b % 8)) λ (w : Value). push b d kind others us id p i rest os fs rs st n (w ∷ []))
-      found s = record-target _ _ (leads-same inside standing s) (λ a c xs vs e h. field-go a c (b / 8) (b % 8) e (field-shows h (b % 8)))
+          (recordAt (lead b d kind others us id p i rest os fs rs st n u) λ (a : ℕ) (fields : List Value). fieldReference a (b / 8) (b % 8) (nth fields (b % 8)) λ (w : Ref). push b d kind others us id p i rest os fs rs st n (refer (writable u) w ∷ []))
+      found {u = u} s = record-target _ _ (leads-same inside standing s) (λ a c xs vs e h. field-go (writable u) a c (b / 8) (b % 8) e (field-shows h (b % 8)))
 
       go : {x : Operand} {u : Value} → Shows R D x (some u)
           → SameOutcome R D (asReference x (λ (r : Reference). recordFrom (leadsTo b d kind (length us) others id p i ops ls ms rooms (length rs) es n r) λ (a c : ℕ) (xs : List Operand). fieldOf a c (b / 8) (b % 8) (held (nth xs (b % 8))) λ (x : Operand). on b d kind (length us) others id p i ops ls ms rooms (length rs) es n (x ∷ [])))
-          (recordAt (lead b d kind others us id p i rest os fs rs st n u) λ (a : ℕ) (fields : List Value). fieldReference a (b / 8) (b % 8) (nth fields (b % 8)) λ (w : Value). push b d kind others us id p i rest os fs rs st n (w ∷ []))
+          (recordAt (lead b d kind others us id p i rest os fs rs st n u) λ (a : ℕ) (fields : List Value). fieldReference a (b / 8) (b % 8) (nth fields (b % 8)) λ (w : Ref). push b d kind others us id p i rest os fs rs st n (refer (writable u) w ∷ []))
       go number = never
       go (whole e) = never
-      go (toALocal {k = c} e) = found (toALocal {k = c} e)
-      go (toAField {y = c} e) = found (toAField {y = c} e)
-      go (toARecord {y = c} e) = found (toARecord {y = c} e)
+      go (toALocal {w} {k = c} e) = found (toALocal {w = w} {k = c} e)
+      go (toAField {w} {y = c} e) = found (toAField {w = w} {y = c} e)
+      go (toARecord {w} {y = c} e) = found (toARecord {w = w} {y = c} e)
 
   -- the limit on records is the rooms
   rooms-left : ltb (freeRoom rooms) 128 ≡ ltb (liveCount rs) 128
@@ -397,6 +397,18 @@ module _ (R D : List ℕ) (b d kind others id p i : ℕ) (ops ls : List Operand)
       go OutOfRange = stops
       go Unknown = never
 
+  same-freeze : SameOutcome R D (machine 20) (ruled 20)
+  unfolding doings actions
+  same-freeze = one-go us _ _ (λ u q. go (the-top u q))
+    where
+      go : {x : Operand} {u : Value} → Shows R D x (some u)
+          → SameOutcome R D (on b d kind (length us) others id p i ops ls ms rooms (length rs) es n (x ∷ [])) (withReference u λ (r : Ref). push b d kind others us id p i rest os fs rs st n (refer false r ∷ []))
+      go number = never
+      go (whole e) = never
+      go (toALocal e) = same-push (and (toALocal e) no-more)
+      go (toAField e) = same-push (and (toAField e) no-more)
+      go (toARecord e) = same-push (and (toARecord e) no-more)
+
   -- all opcodes
   pub same-doing : (a : ℕ) → SameOutcome R D (machine a) (ruled a)
   unfolding actions
@@ -420,4 +432,5 @@ module _ (R D : List ℕ) (b d kind others id p i : ℕ) (ops ls : List Operand)
   same-doing (suc (suc (suc (suc (suc (suc (suc (suc (suc (suc (suc (suc (suc (suc (suc (suc (suc zero))))))))))))))))) = same-branch
   same-doing (suc (suc (suc (suc (suc (suc (suc (suc (suc (suc (suc (suc (suc (suc (suc (suc (suc (suc zero)))))))))))))))))) = same-cond
   same-doing (suc (suc (suc (suc (suc (suc (suc (suc (suc (suc (suc (suc (suc (suc (suc (suc (suc (suc (suc zero))))))))))))))))))) = same-op
-  same-doing (suc (suc (suc (suc (suc (suc (suc (suc (suc (suc (suc (suc (suc (suc (suc (suc (suc (suc (suc (suc a)))))))))))))))))))) = never
+  same-doing (suc (suc (suc (suc (suc (suc (suc (suc (suc (suc (suc (suc (suc (suc (suc (suc (suc (suc (suc (suc zero)))))))))))))))))))) = same-freeze
+  same-doing (suc (suc (suc (suc (suc (suc (suc (suc (suc (suc (suc (suc (suc (suc (suc (suc (suc (suc (suc (suc (suc a))))))))))))))))))))) = never

@@ -238,4 +238,6 @@ module _ (b d kind takes others s p at : ℕ) (ops ls : List Operand) (fs : List
       ∷ mnext (mstate (mframe s p b (drop takes ops) ls) fs rooms recs es n)
       ∷ asNumber (top ops) (λ (x : ℕ). mnext (mstate (mframe s p (cond (eqb x 0) (at + 1) b) (drop takes ops) ls) fs rooms recs es n))
       ∷ asNumber (second ops) (λ (x : ℕ). asNumber (top ops) λ (y : ℕ). calculates (calculation b x y))
+      -- Freeze: the machine does not tell a read-only reference from a writable one
+      ∷ on (top ops ∷ [])
       ∷ []

@@ -1,24 +1,26 @@
 -- What the machine's state stands for in the rules.
 use Prim.Native.Nat.{ℕ, suc}
 use mathlib.Core.Path.{_≡_}
+use mathlib.Core.Bool.{Bool}
 use mathlib.Core.List.{List, [], _∷_}
 use mathlib.Core.Option.{Option, none, some}
 use lib.ListN.{length, getElem? as nth}
 use Rattle.semantics.proofs.Typing.{_⊑_}
-use Rattle.semantics.specs.Machine.{Value, num, obj, toLocal, toField, toRecord, Cell, here, Entry, entry, Frame, frame, state, Outcome, next, finished, stopped, stuck, liveCount}
+use Rattle.semantics.specs.Machine.{toLocal, toField, toRecord, Value, num, obj, refer, Cell, here, Entry, entry, Frame, frame, state, Outcome, next, finished, stopped, stuck, liveCount}
 use Rattle.state.specs.declared.Reference.the-variants.{Local, Field, Record as Whole}
 use Rattle.state.specs.declared.Operand.{Operand}
 use Rattle.state.specs.declared.Operand.the-variants.{Empty, Number, Record, Refer}
 use Rattle.machine.specs.Machine.{MFrame, mframe, MRoom, mroom, MEntry, mentry, mstate, MOutcome, mnext, mfinished, mstopped}
 
--- R has the room of each record ever made, D the depth of each frame ever made: a reference tells where to look, and that never changes
+-- R has the room of each record ever made, D the depth of each frame ever made: a reference tells where to look, and that never changes. It does not tell
+-- whether it is read-only: it shows either
 pub data Shows (R D : List ℕ) : Operand → Option Value → Type 0 where
   empty : Shows R D Empty none
   number : {n : ℕ} → Shows R D (Number n) (some (num n))
   whole : {s r y : ℕ} → nth R s ≡ some r → Shows R D (Record s r y) (some (obj s y))
-  toALocal : {f d l k : ℕ} → nth D f ≡ some d → Shows R D (Refer (Local f d l k)) (some (toLocal f l k))
-  toAField : {s r y j : ℕ} → nth R s ≡ some r → Shows R D (Refer (Field s r y j)) (some (toField s y j))
-  toARecord : {s r y : ℕ} → nth R s ≡ some r → Shows R D (Refer (Whole s r y)) (some (toRecord s y))
+  toALocal : {w : Bool} {f d l k : ℕ} → nth D f ≡ some d → Shows R D (Refer (Local f d l k)) (some (refer w (toLocal f l k)))
+  toAField : {w : Bool} {s r y j : ℕ} → nth R s ≡ some r → Shows R D (Refer (Field s r y j)) (some (refer w (toField s y j)))
+  toARecord : {w : Bool} {s r y : ℕ} → nth R s ≡ some r → Shows R D (Refer (Whole s r y)) (some (refer w (toRecord s y)))
 
 -- operands or fields, and locals, one by one
 pub data ShowsAll (R D : List ℕ) : List Operand → List Value → Type 0 where

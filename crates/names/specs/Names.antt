@@ -29,8 +29,8 @@ names =
     nothing ∷ nothing ∷ localNumber ∷ localNumber ∷ localNumber ∷ localNumber ∷ nothing ∷ nothing
     -- BorrowFld, Pack, Unpack, MoveTo, MoveFrom, BorrowGlobal, Exists
     ∷ fieldNumber ∷ typeNumber ∷ typeNumber ∷ typeNumber ∷ typeNumber ∷ typeNumber ∷ typeNumber
-    -- Call, Ret, Branch, BranchCond, Op
-    ∷ procedureNumber ∷ nothing ∷ target ∷ target ∷ nothing ∷ []
+    -- Call, Ret, Branch, BranchCond, Op, Freeze
+    ∷ procedureNumber ∷ nothing ∷ target ∷ target ∷ nothing ∷ nothing ∷ []
 
 -- whether field b % 8 of type b / 8, which is y, does not exist, where there are so many types
 abbrev pub noSuchField : ℕ → TypeEntry → ℕ → Bool

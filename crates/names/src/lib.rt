@@ -23,7 +23,10 @@ fn has_type(sort: u8) -> bool
     if sort == format::RECORD {
         return true;
     }
-    sort == format::RECORD_REFERENCE
+    if sort == format::RECORD_REFERENCE {
+        return true;
+    }
+    sort == format::RECORD_READER
 }
 
 // 5: a procedure without instructions, or whose last is neither Ret nor Branch.

@@ -167,6 +167,7 @@ flow-here t ix p i e =
     record {
       top = topOf s;
       rest = b .0;
+      told = refl;
       fit = b .1;
       before = b .2;
       few = rw (b .3) at (a .2);

@@ -10,7 +10,7 @@ use Rattle.table.specs.declared.index.ProcedureEntry.{ProcedureEntry}
 use Rattle.table.specs.Format.{maxOperands, opBorrowFld, opExists, opCall}
 use Rattle.table.specs.Rows.{rowAt}
 use Rattle.declarations.specs.Program.{codeOf, procedureIn}
-use Rattle.effects.specs.Kinds.{good}
+use Rattle.effects.specs.Kinds.{good, topOf}
 use Rattle.effects.specs.Effects.{Effect, effectOf}
 use Rattle.operands.specs.Operands.{namedType, kindsBefore, lastOfBlock}
 
@@ -19,16 +19,17 @@ unfoldable pub onto : List ℕ → List ℕ → List ℕ
 onto [] rest = rest
 onto (k ∷ ks) rest = onto ks (k ∷ rest)
 
--- the effect of instruction i, where Pop finds `top`
+-- the effect of instruction i, where `top` is the kind of the top operand
 unfoldable pub effectIn : List ℕ → Index → ProcedureEntry → ℕ → ℕ → Effect
 effectIn t ix p top i = effectOf t p (namedType ix (rowAt (codeOf t p) i)) (procedureIn ix (rowAt (codeOf t p) i .b)) (rowAt (codeOf t p) i) top
 
 -- instruction i of procedure p: what it takes is there with the kinds taken, and what it pushes is there for the next
 pub record Flow (t : List ℕ) (ix : Index) (p : ProcedureEntry) (i : ℕ) : Type 0 where
-  -- what Pop finds, and what stays under what is taken
+  -- the kind of the top operand, and what stays under what is taken
   pub top : ℕ
   pub rest : List ℕ
-  -- its local, or what Pop finds, is fit
+  pub told : top ≡ topOf (kindsBefore t ix p i)
+  -- its local, or the top operand, is fit
   pub fit : effectIn t ix p top i .fit ≡ true
   -- the kinds before are those taken, on the rest
   pub before : kindsBefore t ix p i ≡ good (onto (effectIn t ix p top i .takes) rest)

@@ -92,13 +92,13 @@ unfolding uses
 no-use k h = List·getD-eq-default uses unused {n = k} h
 
 -- which values of A use B, C and D, as the code has them
-pub operand : (a : ℕ) → a < 256 → usedWith pastOpcodes a (useOf 7 .withB) ≡ cond (ltb a 2) false (cond (leb a 5) true (cond (ltb a 8) false (not (eqb a 16))))
+pub operand : (a : ℕ) → a < 256 → usedWith pastOpcodes a (useOf 7 .withB) ≡ cond (ltb a 2) false (cond (leb a 5) true (cond (ltb a 8) false (cond (eqb a 16) false (not (eqb a 20)))))
 unfolding every uses usedWith member none
-operand a h = agree (λ (a : ℕ). usedWith pastOpcodes a (useOf 7 .withB)) (λ (a : ℕ). cond (ltb a 2) false (cond (leb a 5) true (cond (ltb a 8) false (not (eqb a 16))))) 256 a refl h
+operand a h = agree (λ (a : ℕ). usedWith pastOpcodes a (useOf 7 .withB)) (λ (a : ℕ). cond (ltb a 2) false (cond (leb a 5) true (cond (ltb a 8) false (cond (eqb a 16) false (not (eqb a 20)))))) 256 a refl h
 
-pub typed : (a : ℕ) → a < 256 → usedWith pastSorts a (useOf 5 .withB) ≡ cond (eqb a 1) true (leb 3 a)
+pub typed : (a : ℕ) → a < 256 → usedWith pastSorts a (useOf 5 .withB) ≡ cond (eqb a 1) true (cond (eqb a 4) false (leb 3 a))
 unfolding every uses usedWith member none
-typed a h = agree (λ (a : ℕ). usedWith pastSorts a (useOf 5 .withB)) (λ (a : ℕ). cond (eqb a 1) true (leb 3 a)) 256 a refl h
+typed a h = agree (λ (a : ℕ). usedWith pastSorts a (useOf 5 .withB)) (λ (a : ℕ). cond (eqb a 1) true (cond (eqb a 4) false (leb 3 a))) 256 a refl h
 
 pub field-type : (a : ℕ) → a < 256 → usedWith 2 a (useOf 3 .withB) ≡ not (eqb a 0)
 unfolding every uses usedWith member none

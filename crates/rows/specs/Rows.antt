@@ -76,7 +76,7 @@ uses =
     -- procedure: 1 public, 0 private
     ∷ record { values = 2; withB = []; withC = []; withD = [] }
     -- local: sort; B the type of sorts that have one; C 1 parameter, else 0
-    ∷ record { values = pastSorts; withB = typedSorts; withC = 0 ∷ 1 ∷ 2 ∷ 3 ∷ []; withD = [] }
+    ∷ record { values = pastSorts; withB = typedSorts; withC = 0 ∷ 1 ∷ 2 ∷ 3 ∷ 4 ∷ 5 ∷ []; withD = [] }
     -- result: sort; B the type of sorts that have one
     ∷ record { values = pastSorts; withB = typedSorts; withC = []; withD = [] }
     -- instruction: opcode; B the operand; D the constant of opcode 1

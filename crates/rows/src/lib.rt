@@ -237,7 +237,10 @@ fn has_operand(opcode: u8) -> bool
     if opcode < format::BORROW_FLD {
         return false;
     }
-    opcode != format::RET
+    if opcode == format::RET {
+        return false;
+    }
+    opcode != format::FREEZE
 }
 
 // Whether a value of this sort has a type; a sort that is not allowed counts as having one.
@@ -246,6 +249,9 @@ fn has_type(sort: u8) -> bool
 {
     if sort == format::RECORD {
         return true;
+    }
+    if sort == format::NUMBER_READER {
+        return false;
     }
     format::RECORD_REFERENCE <= sort
 }

@@ -11,7 +11,7 @@ use lib.Dec.{eqb, ltb}
 use borrow.Author.Tests.{eqb-true, ltb-true, not-true}
 use Rattle.table.specs.Format
 use Rattle.table.specs.Index.{indexOf}
-use Rattle.declarations.specs.Program.{number, referenceTo, isRecord, procedureIn, typeIn, fieldKinds, resultKinds, codeOf, localCount, localKind, instructionIn}
+use Rattle.declarations.specs.Program.{number, numberRef, recordRef, referenceTo, frozen, isRecord, procedureIn, typeIn, fieldKinds, resultKinds, codeOf, localCount, localKind, instructionIn}
 use Rattle.reach.specs.Reach.{Mem}
 use Rattle.effects.specs.Effects.{Effect, effects, noEffect}
 use Rattle.operands.specs.Operands.{namedType, endsBlock, lastOfBlock}
@@ -19,15 +19,13 @@ use Rattle.operands.specs.Flow.{onto, effectIn}
 use Rattle.flow.specs.Steps.{nexts}
 use Rattle.flow.specs.Walks.{Slot, empty, full, markOf, topMark, pushedOn as marksOn}
 use Rattle.locals.specs.Locals.{needsFull}
-use Rattle.leaks.specs.Leaks.{guardedMarks}
-use Rattle.acceptance.proofs.Regular.{step-takes}
-use Rattle.acceptance.specs.Checked.{stepIn}
+use Rattle.acceptance.specs.Checked.{Unmarked}
 use Rattle.acceptance.specs.Judged.{localKinds}
 use Rattle.arithmetic.specs.declared.Calculated.{Calculated}
 use Rattle.arithmetic.specs.declared.Calculated.the-variants.{Value as Gives, OutOfRange, Unknown}
 use Rattle.arithmetic.specs.Arithmetic.{calculation}
 use Rattle.arithmetic.proofs.Range.{four, word}
-use Rattle.semantics.specs.Machine.{Value, num, obj, toField, toRecord, Cell, gone, here, Entry, Frame, frame, State, state, Outcome, next, stopped, stuck, findKey, putField, liveCount, target, writeFrames, writeRecords}
+use Rattle.semantics.specs.Machine.{Ref, toField, toRecord, Value, num, obj, refer, asKind, writable, Cell, gone, here, Entry, Frame, frame, State, state, Outcome, next, stopped, stuck, findKey, putField, liveCount, target, writeFrames, writeRecords}
 use Rattle.semantics.specs.Calls.{allNumbers}
 use Rattle.semantics.specs.Step.{pushedOn, numberAt, recordAt, fieldReference, underKey, calculated, actions, returned, noneHeld}
 use Rattle.semantics.specs.Ownership.{inValue, inValues, inLocals, inFrames, inRecords, inStore, livesAt}
@@ -36,9 +34,9 @@ use Rattle.semantics.specs.Claim.{All, none-left, also, IsNumber}
 use Rattle.semantics.proofs.Counts.{held-rev, held-set, held-start, heap-set, heap-snoc, alive-set, alive-snoc, alive-put, vals-set, same-one, alive-gone, find-drop, put-set}
 use Rattle.semantics.proofs.Changes.{clash, same, wrote, packed, unpacked, published, withdrew}
 use Rattle.semantics.proofs.Sounds.{nth-inside}
-use Rattle.semantics.proofs.Sorts.{reference-loose}
+use Rattle.semantics.proofs.Sorts.{number-writable, record-writable, is-writable, as-loose, reads-as, alike-as}
 use Rattle.semantics.proofs.Typing.{Word, Fit, fnum, fobj, floc, ffld, frec, Has, hnil, hcons, has-push, has-more, Slots, slots-more, Fields, CellOk, cells-more, EntryOk, entries-more, snoc-more, snoc-last}
-use Rattle.semantics.proofs.Places.{as-fields, of-fields, loose, as-number, as-record, slot-full, slot-clear, slot-put, slot-free, emptied}
+use Rattle.semantics.proofs.Places.{as-fields, of-fields, loose, as-number, as-record, as-writable, slot-full, slot-clear, slot-put, slot-free, emptied}
 use Rattle.semantics.proofs.Frames.{Suspended, bottom, over, suspended-more, runs, typeOf, write, held-local, cell-at, all-set, all-snoc, types-set, types-snoc, types-length, find-key, drop-key, field-put, NumberAt, lost, inALocal, inAField, number-at, RecordAt, lostRecord, leads, record-at, FieldAt, numberField, recordField, field-at}
 use Rattle.semantics.proofs.Entering.{entered, has-length}
 use Rattle.semantics.proofs.Instructions.{effect-at, locals-kept, locals-moved, locals-stored, pushes-moved, pushes-copied, pushes-field, pushes-length}
@@ -186,18 +184,19 @@ module _ {t : List ℕ} {T W : List ℕ} {id p i : ℕ} {ops vs under : List Val
       rw (l, d) (keeps R (λ q. omega (arith, e, q)) (i + 1) (fall 6 e (λ z. omega arith) (λ z. omega arith)) (a-value 6 e refl (λ m. fnum w refl)) (kept 6 e refl refl) (λ r. omega (arith, R .owned r, ap (inValues r) q, z r)))
 
   pub ok-read : Case 6
-  unfolding actions effects isRecord
+  unfolding actions effects
   ok-read e =
       let q = one-taken (has-at 6 e) in
-      rw (q .2) (ok-read-go e (q .0) (q .2) (loose (q .4) refl) (number-at (R .stack) (R .types) (R .records) (q .4) refl))
+      let u = reads-as numberRef _ (fit-at 6 e) in
+      rw (q .2) (ok-read-go e (q .0) (q .2) (loose (q .4) (ap isRecord (u .1) ∙ as-loose (u .0) numberRef number-writable)) (number-at (R .stack) (R .types) (R .records) (u .0) (q .4) (u .1)))
 
   -- a number written to a local, or to a field
-  ok-write-go : op ≡ 7 → (x : ℕ) (v : Value) → vs ≡ num x ∷ v ∷ [] → Word x → ((r : ℕ) → inValue r v ≡ 0) → NumberAt (frame id p i ops ls ∷ fs) h T t (indexOf t) v
+  ok-write-go : op ≡ 7 → (x : ℕ) (v : Value) → vs ≡ num x ∷ v ∷ [] → writable v ≡ true → Word x → ((r : ℕ) → inValue r v ≡ 0) → NumberAt (frame id p i ops ls ∷ fs) h T t (indexOf t) v
       → OutcomeOk t (Did R)
       (numberAt (target (frame id p i under ls ∷ fs) h v) λ (y : ℕ). next (state (writeFrames (frame id p (i + 1) under ls ∷ fs) v (num x)) (writeRecords h v (num x)) st n))
   unfolding effects
-  ok-write-go e x v q u z (lost l) = rw (target-same id p i i under ops ls fs h v ∙ l) tt
-  ok-write-go e x v q u z (inALocal {f} {l} {n = y} w d) =
+  ok-write-go e x v q o u z (lost l) = rw (target-same id p i i under ops ls fs h v ∙ l) tt
+  ok-write-go e x v q o u z (inALocal {f} {l} {n = y} w d) =
       rw d (
         record {
           T = T;
@@ -211,7 +210,7 @@ module _ {t : List ℕ} {T W : List ℕ} {id p i : ℕ} {ops vs under : List Val
         },
         same (λ w a y j x′ under′ r. clash (cc (r, R .shape ∙ ap (λ (l : List Value). pushedOn l under) q))) refl refl,
       )
-  ok-write-go e x v q u z (inAField {id = c} {y} {j} {n = o} {vs = ws} w l d k f) =
+  ok-write-go e x v q g u z (inAField {id = c} {y} {j} {n = o} {vs = ws} w l d k f) =
       let put : putField h c j (num x) ≡ set h c (here y (set ws j (num x))) = put-set h c j y ws (num x) l in
       rw (l, d, put) (
         record {
@@ -224,7 +223,7 @@ module _ {t : List ℕ} {T W : List ℕ} {id p i : ℕ} {ops vs under : List Val
           store = R .store;
           owned = λ r. omega (arith, R .owned r, ap (inValues r) q, z r, heap-set r h c (here y (set ws j (num x))) (here y ws) l, vals-set r ws j (num x) (num o) d, alive-put r h c y ws (set ws j (num x)) l);
         },
-        wrote c y j x ws under e (R .shape ∙ ap (λ (l : List Value). pushedOn l under) q) l refl refl,
+        wrote c y j x ws under e (R .shape ∙ ap (λ (l : List Value). pushedOn l under) q ∙ ap (λ (w : Bool). refer w (toField c y j) ∷ num x ∷ under) g) l refl refl,
       )
 
   pub ok-write : Case 7
@@ -233,7 +232,7 @@ module _ {t : List ℕ} {T W : List ℕ} {id p i : ℕ} {ops vs under : List Val
       let q = two-taken (has-at 7 e) in
       let a = as-number (q .5) refl in
       let shape : vs ≡ num (a .0) ∷ q .1 ∷ [] = q .4 ∙ ap (λ (v : Value). v ∷ q .1 ∷ []) (a .1) in
-      rw shape (ok-write-go e (a .0) (q .1) shape (a .2) (loose (q .6) refl) (number-at (R .stack) (R .types) (R .records) (q .6) refl))
+      rw shape (ok-write-go e (a .0) (q .1) shape (ap writable (as-writable (q .6) number-writable .1)) (a .2) (loose (q .6) refl) (number-at (R .stack) (R .types) (R .records) true (q .6) refl))
 
   -- the module of the type that an instruction works on is its own
   owns : (a : ℕ) → op ≡ a → Format.opBorrowFld ≤ a → a ≤ Format.opExists → typeIn (indexOf t) (cond (eqb a Format.opBorrowFld) (b / 8) b) .owner ≡ moduleIn (indexOf t) p
@@ -241,31 +240,34 @@ module _ {t : List ℕ} {T W : List ℕ} {id p i : ℕ} {ops vs under : List Val
   owns a e x y = rw e at (R .instr .flow .ownType (rw e x) (rw e y))
 
   ok-field-go : op ≡ 8 → (v : Value) → vs ≡ v ∷ [] → ((r : ℕ) → inValue r v ≡ 0) → (a k : ℕ) (w : Option Value) → nth T a ≡ some (b / 8) → nth (fieldKinds t (typeIn (indexOf t) (b / 8))) (b % 8) ≡ some k
-      → effect 8 .gives ≡ referenceTo k ∷ [] → FieldAt T k w
-      → OutcomeOk t (Did R) (fieldReference a (b / 8) (b % 8) w λ (w : Value). next (state (frame id p (i + 1) (w ∷ under) ls ∷ fs) h st n))
-  ok-field-go e v q z a k w d f g (numberField y) =
-      keeps R (λ q. omega (arith, e, q)) (i + 1) (fall 8 e (λ z. omega arith) (λ z. omega arith)) {ws = toField a (b / 8) (b % 8) ∷ []} {ls′ = ls}
+      → (u : Bool) → effect 8 .gives ≡ asKind u (referenceTo k) ∷ [] → FieldAt T k w
+      → OutcomeOk t (Did R) (fieldReference a (b / 8) (b % 8) w λ (w : Ref). next (state (frame id p (i + 1) (refer u w ∷ under) ls ∷ fs) h st n))
+  ok-field-go e v q z a k w d f x g (numberField y) =
+      keeps R (λ q. omega (arith, e, q)) (i + 1) (fall 8 e (λ z. omega arith) (λ z. omega arith)) {ws = refer x (toField a (b / 8) (b % 8)) ∷ []} {ls′ = ls}
       (rw (given-at 8 e ∙ g, pushes-field t (indexOf t) (procedureIn (indexOf t) p) i (R .L) (R .O) e)
-      (hcons (ffld d (f ∙ ap {B = Option ℕ} some y) (λ u. (u, owns 8 e (omega arith) (omega arith))) (ap referenceTo y)) hnil))
+      (hcons (ffld {w = x} d (f ∙ ap {B = Option ℕ} some y) (λ o u. (u, owns 8 e (omega arith) (omega arith))) (ap (λ (k : ℕ). asKind x (referenceTo k)) y)) hnil))
       (kept 8 e refl refl) (λ r. omega (arith, R .owned r, ap (inValues r) q, z r))
-  ok-field-go e v q z a k w d f g (recordField {id = c} {y} l y′) =
-      keeps R (λ q. omega (arith, e, q)) (i + 1) (fall 8 e (λ z. omega arith) (λ z. omega arith)) {ws = toRecord c y ∷ []} {ls′ = ls} (a-value 8 e g (λ m. frec l (omega (arith, y′)))) (kept 8 e refl refl)
+  ok-field-go e v q z a k w d f x g (recordField {id = c} {y} l y′) =
+      keeps R (λ q. omega (arith, e, q)) (i + 1) (fall 8 e (λ z. omega arith) (λ z. omega arith)) {ws = refer x (toRecord c y) ∷ []} {ls′ = ls} (a-value 8 e g (λ m. frec l (ap (asKind x) (omega (arith, y′))))) (kept 8 e refl refl)
       (λ r. omega (arith, R .owned r, ap (inValues r) q, z r))
 
-  ok-field-at : op ≡ 8 → (v : Value) → vs ≡ v ∷ [] → ((r : ℕ) → inValue r v ≡ 0) → RecordAt (frame id p i ops ls ∷ fs) h T t (indexOf t) (b / 8) v
+  ok-field-at : op ≡ 8 → (u : Bool) → R .instr .flow .top ≡ asKind u (recordRef (b / 8)) → (v : Value) {x : Bool} → x ≡ u → vs ≡ v ∷ [] → ((r : ℕ) → inValue r v ≡ 0) → RecordAt (frame id p i ops ls ∷ fs) h T t (indexOf t) (b / 8) v
       → OutcomeOk t (Did R)
-      (recordAt (target (frame id p i under ls ∷ fs) h v) λ (a : ℕ) (fields : List Value). fieldReference a (b / 8) (b % 8) (nth fields (b % 8)) λ (w : Value). next (state (frame id p (i + 1) (w ∷ under) ls ∷ fs) h st n))
+      (recordAt (target (frame id p i under ls ∷ fs) h v) λ (a : ℕ) (fields : List Value). fieldReference a (b / 8) (b % 8) (nth fields (b % 8)) λ (w : Ref). next (state (frame id p (i + 1) (refer x w ∷ under) ls ∷ fs) h st n))
   unfolding effects
-  ok-field-at e v q z (lostRecord l) = rw (target-same id p i i under ops ls fs h v ∙ l) tt
-  ok-field-at e v q z (leads a ws l d y f) =
+  ok-field-at e u m v s q z (lostRecord l) = rw (target-same id p i i under ops ls fs h v ∙ l) tt
+  ok-field-at e u m v s q z (leads a ws l d y f) =
       let k = R .judged .declared (b / 8) y .field-at (b % 8) (R .instr .field-named e .1) in
-      rw (target-same id p i i under ops ls fs h v ∙ l) (ok-field-go e v q z a _ (nth ws (b % 8)) d k refl (field-at f (b % 8) _ k))
+      rw (s, target-same id p i i under ops ls fs h v ∙ l)
+      (ok-field-go e v q z a _ (nth ws (b % 8)) d k u (ap (λ (c : ℕ). c ∷ []) (alike-as u _ (recordRef (b / 8)) _ (record-writable (b / 8)) m)) (field-at f (b % 8) _ k))
 
   pub ok-field : Case 8
   unfolding actions effects
   ok-field e =
       let q = one-taken (has-at 8 e) in
-      rw (q .2) (ok-field-at e (q .0) (q .2) (loose (q .4) (reference-loose (b / 8))) (record-at (R .stack) (R .types) (R .records) (b / 8) (q .4) refl))
+      let u = reads-as (recordRef (b / 8)) _ (fit-at 8 e) in
+      let r = record-at (R .stack) (R .types) (R .records) (u .0) (b / 8) (q .4) (u .1) in
+      rw (q .2) (ok-field-at e (u .0) (u .1) (q .0) (cc (r .0)) (q .2) (loose (q .4) (ap isRecord (u .1) ∙ as-loose (u .0) (recordRef (b / 8)) (record-writable (b / 8)))) (r .1))
 
   -- a limit that is kept, or a stop
   within : (C : List Cell → List Entry → Type 0) (c : Bool) (k : ℕ) (s : State) → (c ≡ true → OutcomeOk t C (next s)) → OutcomeOk t C (cond c (next s) (stopped k))
@@ -376,12 +378,12 @@ module _ {t : List ℕ} {T W : List ℕ} {id p i : ℕ} {ops vs under : List Val
       (λ free. keeps R (λ q. omega (arith, e, q)) (i + 1) (fall 14 e (λ z. omega arith) (λ z. omega arith)) (a-value 14 e refl (λ m. fnum (omega arith) refl)) (kept 14 e refl refl) (λ r. omega (arith, R .owned r, ap (inValues r) (a .1))))
       (λ j z. keeps R (λ q. omega (arith, e, q)) (i + 1) (fall 14 e (λ z. omega arith) (λ z. omega arith)) (a-value 14 e refl (λ m. fnum (omega arith) refl)) (kept 14 e refl refl) (λ r. omega (arith, R .owned r, ap (inValues r) (a .1)))))
 
-  -- what a Call or a Ret takes is unmarked
-  clean : (a : ℕ) → op ≡ a → ((j : ℕ) → j < stepIn t p i .takes → getD (R .O) j false ≡ false)
+  -- no writable reference to a number that a Call or a Ret takes is marked
+  clean : (a : ℕ) → op ≡ a → Unmarked (effect a .takes) (R .O)
       → (m : ℕ) (cs : List Bool) → length cs ≡ length (effect a .takes) → Has t (indexOf t) T W m vs (effect a .takes) cs
   clean a e f m cs l =
       let g = ap (λ (x : Effect). x .takes) (effect-is a e) in
-      rw g at (R .out m cs (l ∙ ap length (sym g)) (λ j q. f j (rw (step-takes t (indexOf t) (guardedMarks t) (procedureIn (indexOf t) p) (R .instr .flow .top) i) q)))
+      rw g at (R .out m cs (l ∙ ap length (sym g)) (λ before after q. f before after (sym g ∙ q)))
 
   pub ok-call : Case 15
   unfolding actions effects
@@ -439,6 +441,21 @@ module _ {t : List ℕ} {T W : List ℕ} {id p i : ℕ} {ops vs under : List Val
       let y = as-number (q .6) refl in
       let shape : vs ≡ num (x .0) ∷ num (y .0) ∷ [] = q .4 ∙ cc (x .1, y .1) in
       rw shape (calculated-ok e (x .0) (y .0) shape (x .2) _ refl)
+
+  -- what Freeze pushes is read-only
+  ok-freeze-go : op ≡ 20 → (r : Ref) → vs ≡ refer true r ∷ [] → ((c : Bool) → Fit t (indexOf t) T W (moduleIn (indexOf t) p) (refer false r) (frozen (R .instr .flow .top)) c) → {x : Bool} → x ≡ false
+      → OutcomeOk t (Did R) (next (state (frame id p (i + 1) (refer x r ∷ under) ls ∷ fs) h st n))
+  unfolding effects
+  ok-freeze-go e r q f d =
+      rw d (keeps R (λ q. omega (arith, e, q)) (i + 1) (fall 20 e (λ z. omega arith) (λ z. omega arith)) (a-value 20 e refl f) (kept 20 e refl refl) (λ r. omega (arith, R .owned r, ap (inValues r) q)))
+
+  pub ok-freeze : Case 20
+  unfolding actions effects
+  ok-freeze e =
+      let q = one-taken (has-at 20 e) in
+      let z = as-writable (q .4) (is-writable _ (fit-at 20 e)) in
+      let shape : vs ≡ refer true (z .0) ∷ [] = q .2 ∙ ap (λ (v : Value). v ∷ []) (z .1) in
+      rw shape (ok-freeze-go e (z .0) shape (z .2) (cc))
 
 -- numbers hold no record
 numbers-hold : {t : List ℕ} {T W : List ℕ} {m : ℕ} {vs : List Value} {bs : List Bool} (ks : List ℕ) → allNumbers ks ≡ true → Has t (indexOf t) T W m vs ks bs → (r : ℕ) → inValues r vs ≡ 0

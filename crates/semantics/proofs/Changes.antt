@@ -10,7 +10,7 @@ use lib.Dec.{eqb}
 use borrow.Author.Tests.{eqb-true}
 use Rattle.table.specs.Format.{opWriteRef, opPack, opUnpack, opMoveTo, opMoveFrom}
 use Rattle.semantics.specs.Step.{pushedOn}
-use Rattle.semantics.specs.Machine.{Value, num, obj, toField, Cell, gone, here, Entry, entry, lives, liveCount, findKey, dropKey}
+use Rattle.semantics.specs.Machine.{toField, Value, num, obj, refer, Cell, gone, here, Entry, entry, lives, liveCount, findKey, dropKey}
 
 -- different constructors differ
 pub clash : _≡_ {A = ℕ} 0 1 → ⊥
@@ -18,8 +18,8 @@ clash e = omega arith
 
 -- what an instruction of module m with opcode op and operand b, over the operands ops, did to records and store; `decl` tells who declares a type
 pub data Change (decl : ℕ → ℕ) (m op b : ℕ) (ops : List Value) (h : List Cell) (st : List Entry) (h′ : List Cell) (st′ : List Entry) : Type 0 where
-  same : (op ≡ opWriteRef → (a t j x : ℕ) (under : List Value) → ops ≡ toField a t j ∷ num x ∷ under → ⊥) → h′ ≡ h → st′ ≡ st → Change decl m op b ops h st h′ st′
-  wrote : (a t j x : ℕ) (vs under : List Value) → op ≡ opWriteRef → ops ≡ toField a t j ∷ num x ∷ under → nth h a ≡ some (here t vs) → h′ ≡ set h a (here t (set vs j (num x))) → st′ ≡ st
+  same : (op ≡ opWriteRef → (a t j x : ℕ) (under : List Value) → ops ≡ refer true (toField a t j) ∷ num x ∷ under → ⊥) → h′ ≡ h → st′ ≡ st → Change decl m op b ops h st h′ st′
+  wrote : (a t j x : ℕ) (vs under : List Value) → op ≡ opWriteRef → ops ≡ refer true (toField a t j) ∷ num x ∷ under → nth h a ≡ some (here t vs) → h′ ≡ set h a (here t (set vs j (num x))) → st′ ≡ st
       → Change decl m op b ops h st h′ st′
   packed : (vs : List Value) → liveCount h < 128 → op ≡ opPack → decl b ≡ m → h′ ≡ h ++ (here b vs ∷ []) → st′ ≡ st → (under : List Value) × (ops ≡ pushedOn vs under) → Change decl m op b ops h st h′ st′
   unpacked : (a : ℕ) (vs : List Value) → op ≡ opUnpack → decl b ≡ m → nth h a ≡ some (here b vs) → h′ ≡ set h a (gone b) → st′ ≡ st → (under : List Value) × (ops ≡ obj a b ∷ under) → Change decl m op b ops h st h′ st′

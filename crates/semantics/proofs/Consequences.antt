@@ -10,20 +10,21 @@ use lib.ListN.{length, set, replicate, getElem? as nth}
 use lib.Dec.{eqb}
 use borrow.Author.Tests.{eqb-true}
 use Rattle.table.specs.declared.index.Index.{Index}
-use Rattle.table.specs.Format.{opWriteRef, opBorrowLoc, opBorrowFld, opBorrowGlobal, opCall, opRet}
+use Rattle.table.specs.Format.{opWriteRef, opBorrowLoc, opBorrowFld, opBorrowGlobal, opCall, opRet, opFreeze}
 use Rattle.table.specs.Rows.{rowAt}
-use Rattle.declarations.specs.Program.{number, localKind, localCount}
+use Rattle.declarations.specs.Program.{number, numberRef, recordRef, referenceTo, localKind, localCount}
 use Rattle.semantics.specs.Limits.{budgetSpent}
 use Rattle.reach.specs.Reach.{Mem}
-use Rattle.semantics.specs.Machine.{Value, valueKind, num, obj, toLocal, toField, toRecord, putLocal, localOf, findKey, Cell, gone, here, Entry, entry, Frame, frame, State, state, Outcome, next, stopped, aRecord, inCell, inLocal, target}
+use Rattle.semantics.specs.Machine.{Ref, toLocal, toField, toRecord, Value, valueKind, writable, num, obj, refer, putLocal, localOf, findKey, Cell, gone, here, Entry, entry, Frame, frame, State, state, Outcome, next, stopped, Target, aNumber, aRecord, stale, wrong, inCell, inLocal, numberIn, inField, target}
 use Rattle.semantics.specs.Step.{pushedOn, startLocals, Taken, missing, took, alsoTaken, taken, effectAt, step}
 use Rattle.semantics.specs.Calls.{Call, call}
 use Rattle.semantics.specs.History.{Base, Event, moment, ended, rowUp, begin, afterwards}
 use Rattle.semantics.specs.Words.{procedureCount, kindsIn, bodyOf, instructionRow, Holds, operand, local, Exists, NumberIn, IsEntry}
-use Rattle.semantics.specs.Claim.{Sound, Rising, IsReference, Labelled, Typed, typed, Linked, first, under as at-call, Makes, local-made, field-made, nested-made, entry-made, Takes, Handed, goesOn, writes, calls, returns, Origin, SafeState, goes, Safe, safe}
+use Rattle.semantics.specs.Claim.{Sound, Rising, IsReference, Labelled, Typed, typed, Linked, first, under as at-call, Makes, local-made, field-made, nested-made, entry-made, frozen-made, Takes, Handed, goesOn, writes, calls, returns, Origin, SafeState, goes, Safe, safe}
 use Rattle.semantics.specs.Chain.{Moments, spent, steps, done, Chained, no-call, one-call}
 use Rattle.semantics.proofs.Changes.{clash}
 use Rattle.semantics.proofs.Sounds.{nth-set, head-of}
+use Rattle.semantics.proofs.Sorts.{as-large}
 use Rattle.semantics.proofs.Handing.{taken-shape}
 
 -- what was taken has the kinds taken, and as many values
@@ -101,9 +102,9 @@ risen (frame id′ p′ i′ ops′ ls′ ∷ above) f rest n r = risen above f 
 number-kind : (v : Value) → valueKind v ≡ number → (x : ℕ) × (v ≡ num x)
 number-kind (num x) e = (x, refl)
 number-kind (obj c y) e = absurd (omega arith)
-number-kind (toLocal f l k) e = absurd (omega arith)
-number-kind (toField c y j) e = absurd (omega arith)
-number-kind (toRecord c y) e = absurd (omega arith)
+number-kind (refer w (toLocal f l k)) e = absurd (omega (arith, as-large w (referenceTo k), e))
+number-kind (refer w (toField c y j)) e = absurd (omega (arith, as-large w numberRef, e))
+number-kind (refer w (toRecord c y)) e = absurd (omega (arith, as-large w (recordRef y), e))
 
 number-in : (vs : List Value) (j : ℕ) → nth (map valueKind vs) j ≡ some number → (x : ℕ) × (nth vs j ≡ some (num x))
 number-in [] j e = absurd (clash (cc))
@@ -243,6 +244,19 @@ leads-to id none e = absurd (clash (cc))
 leads-to id (some (gone y)) e = absurd (clash (cc))
 leads-to id (some (here y vs)) e = cc
 
+-- a reference to a field leads to no record
+no-record-in : (o : Option Value) {d : ℕ} {fields : List Value} → numberIn o ≡ aRecord d fields → ⊥
+no-record-in none e = clash (cc)
+no-record-in (some (num x)) e = clash (cc)
+no-record-in (some (obj c y)) e = clash (cc)
+no-record-in (some (refer w r)) e = clash (cc)
+
+no-record : (x : Target) (j : ℕ) {d : ℕ} {fields : List Value} → inField x j ≡ aRecord d fields → ⊥
+no-record (aNumber x) j e = clash (cc)
+no-record (aRecord c vs) j e = no-record-in (nth vs j) e
+no-record stale j e = clash (cc)
+no-record wrong j e = clash (cc)
+
 found-there : (st : List Entry) (y a c : ℕ) → findKey st y a ≡ some c → IsEntry st y a c
 found-there [] y a c e = absurd (clash (cc))
 found-there (entry y′ a′ id ∷ st) y a c e = go (eqb y′ y) (eqb a′ a) refl refl e (found-there st y a c)
@@ -253,60 +267,87 @@ found-there (entry y′ a′ id ∷ st) y a c e = go (eqb y′ y) (eqb a′ a) r
     go false true p q u ih = List·Memᴰ·tail (ih u)
     go false false p q u ih = List·Memᴰ·tail (ih u)
 
+-- the step of a row over these operands lends a writable reference: BorrowLoc, BorrowGlobal, or BorrowFld through a writable one
+abbrev pub Lends : List ℕ → ℕ → List Value → Type 0
+Lends t row ops = (rowAt t row .a ≡ opBorrowLoc) ⊎ ((rowAt t row .a ≡ opBorrowGlobal) ⊎ ((rowAt t row .a ≡ opBorrowFld) × ((v : Value) × (under : List Value) × (ops ≡ v ∷ under) × (writable v ≡ true))))
+
 -- what a reference that is made leads to, and the opcodes that make one
 module _ {t : List ℕ} {row id p i : ℕ} {ops : List Value} {ls : List (Option Value)} {fs : List Frame} {rs : List Cell} {st : List Entry} where
-  pub to-field : {c y j d : ℕ} {v r : Value} {rest fields : List Value} → v ≡ toField c y j → ops ≡ r ∷ rest → target (frame id p i ops ls ∷ fs) rs r ≡ aRecord d fields → Makes t row id p ops (frame id p i ops ls ∷ fs) rs st v → c ≡ d
+  pub to-field : {w : Bool} {c y j d : ℕ} {v r : Value} {rest fields : List Value} → v ≡ refer w (toField c y j) → ops ≡ r ∷ rest → target (frame id p i ops ls ∷ fs) rs r ≡ aRecord d fields → Makes t row id p ops (frame id p i ops ls ∷ fs) rs st v → c ≡ d
   to-field e s z (local-made a) = absurd (clash (cc))
   to-field {r} e s z (field-made {r = q} a b w) = let x : q ≡ r = cc (b, s) in cc (e, rw x at w, z)
   to-field e s z (nested-made a b w u) = absurd (clash (cc))
   to-field e s z (entry-made a b w) = absurd (clash (cc))
+  to-field {c} {y} {j} {r} e s z (frozen-made a b) = let x : r ≡ refer true (toField c y j) = cc (e, b, s) in absurd (no-record (inCell c (nth rs c)) j (rw x at z))
 
-  pub to-local : {f l k : ℕ} {v : Value} → v ≡ toLocal f l k → Makes t row id p ops (frame id p i ops ls ∷ fs) rs st v → f ≡ id
+  pub to-local : {f l k : ℕ} {v : Value} → v ≡ refer true (toLocal f l k) → Makes t row id p ops (frame id p i ops ls ∷ fs) rs st v → f ≡ id
   to-local e (local-made a) = cc (e)
   to-local e (field-made a b w) = absurd (clash (cc))
   to-local e (nested-made a b w u) = absurd (clash (cc))
   to-local e (entry-made a b w) = absurd (clash (cc))
+  to-local e (frozen-made a b) = absurd (clash (cc))
 
   -- through a reference to a record, to a field of that record; through one to a local, to a field of the record in it
-  pub through-record : {c y j c′ y′ : ℕ} {v : Value} {rest : List Value} → v ≡ toField c y j → ops ≡ toRecord c′ y′ ∷ rest → Makes t row id p ops (frame id p i ops ls ∷ fs) rs st v → c ≡ c′
+  pub through-record : {w u : Bool} {c y j c′ y′ : ℕ} {v : Value} {rest : List Value} → v ≡ refer w (toField c y j) → ops ≡ refer u (toRecord c′ y′) ∷ rest → Makes t row id p ops (frame id p i ops ls ∷ fs) rs st v → c ≡ c′
   through-record e s (local-made a) = absurd (clash (cc))
-  through-record {c′} {y′} e s (field-made {r = q} {c = d} a b w) = let x : q ≡ toRecord c′ y′ = cc (b, s) in let u = leads-to c′ (nth rs c′) (rw x at w) in cc (e, u)
+  through-record {u = f} {c′} {y′} e s (field-made {r = q} {c = d} a b w) = let x : q ≡ refer f (toRecord c′ y′) = cc (b, s) in let u = leads-to c′ (nth rs c′) (rw x at w) in cc (e, u)
   through-record e s (nested-made a b w u) = absurd (clash (cc))
   through-record e s (entry-made a b w) = absurd (clash (cc))
+  through-record e s (frozen-made a b) = absurd (clash (cc))
 
-  pub through-local : {c y j f l k c′ y′ : ℕ} {v : Value} {rest : List Value} → v ≡ toField c y j → ops ≡ toLocal f l k ∷ rest → localOf (frame id p i ops ls ∷ fs) f l ≡ some (obj c′ y′)
+  pub through-local : {w u : Bool} {c y j f l k c′ y′ : ℕ} {v : Value} {rest : List Value} → v ≡ refer w (toField c y j) → ops ≡ refer u (toLocal f l k) ∷ rest → localOf (frame id p i ops ls ∷ fs) f l ≡ some (obj c′ y′)
       → Makes t row id p ops (frame id p i ops ls ∷ fs) rs st v → c ≡ c′
   through-local e s z (local-made a) = absurd (clash (cc))
-  through-local {f} {l} {k} {c′} e s z (field-made {r = q} {fields} {c = d} a b w) =
-      let x : q ≡ toLocal f l k = cc (b, s) in
+  through-local {u = h} {f} {l} {k} {c′} e s z (field-made {r = q} {fields} {c = d} a b w) =
+      let x : q ≡ refer h (toLocal f l k) = cc (b, s) in
       let g : inLocal rs (localOf (frame id p i ops ls ∷ fs) f l) ≡ aRecord d fields = rw x at w in
       let u = leads-to c′ (nth rs c′) (sym (ap (inLocal rs) z) ∙ g) in
       cc (e, u)
   through-local e s z (nested-made a b w u) = absurd (clash (cc))
   through-local e s z (entry-made a b w) = absurd (clash (cc))
+  through-local e s z (frozen-made a b) = absurd (clash (cc))
 
   -- to the record that stands in the field
-  pub to-nested : {c y c′ y′ d : ℕ} {v r : Value} {rest fields : List Value} → v ≡ toRecord c y → rowAt t row .a ≡ opBorrowFld → ops ≡ r ∷ rest → target (frame id p i ops ls ∷ fs) rs r ≡ aRecord d fields
+  pub to-nested : {w : Bool} {c y c′ y′ d : ℕ} {v r : Value} {rest fields : List Value} → v ≡ refer w (toRecord c y) → rowAt t row .a ≡ opBorrowFld → ops ≡ r ∷ rest → target (frame id p i ops ls ∷ fs) rs r ≡ aRecord d fields
       → nth fields (rowAt t row .b % 8) ≡ some (obj c′ y′) → Makes t row id p ops (frame id p i ops ls ∷ fs) rs st v → c ≡ c′
   to-nested e g s z k (local-made b) = absurd (clash (cc))
   to-nested e g s z k (field-made b w u) = absurd (clash (cc))
   to-nested {r} {fields} e g s z k (nested-made {r = q} {fields = ws} b w u h) = let x : q ≡ r = cc (w, s) in let y : ws ≡ fields = cc (rw x at u, z) in cc (e, h, k, y)
   to-nested e g s z k (entry-made b w u) = absurd (omega (arith, b, g))
+  to-nested e g s z k (frozen-made b w) = absurd (omega (arith, b, g))
 
   -- BorrowGlobal's is to the record under the key
-  pub to-entry : {c y a : ℕ} {v : Value} {rest : List Value} → v ≡ toRecord c y → rowAt t row .a ≡ opBorrowGlobal → ops ≡ num a ∷ rest → Makes t row id p ops (frame id p i ops ls ∷ fs) rs st v → IsEntry st y a c
+  pub to-entry : {w : Bool} {c y a : ℕ} {v : Value} {rest : List Value} → v ≡ refer w (toRecord c y) → rowAt t row .a ≡ opBorrowGlobal → ops ≡ num a ∷ rest → Makes t row id p ops (frame id p i ops ls ∷ fs) rs st v → IsEntry st y a c
   to-entry e g s (local-made b) = absurd (clash (cc))
   to-entry e g s (field-made b d w) = absurd (clash (cc))
   to-entry e g s (nested-made b d w u) = absurd (omega (arith, b, g))
   to-entry {c} {y} {a} e g s (entry-made {a = a′} {c = c′} b d w) =
       let x : a′ ≡ a = cc (d, s) in let u : c′ ≡ c = cc (e) in let q : rowAt t row .b ≡ y = cc (e) in
       rw (← x, ← u, ← q) (found-there st (rowAt t row .b) a′ c′ w)
+  to-entry e g s (frozen-made b w) = absurd (omega (arith, b, g))
 
-  pub borrows : {v : Value} → Makes t row id p ops (frame id p i ops ls ∷ fs) rs st v → (rowAt t row .a ≡ opBorrowLoc) ⊎ ((rowAt t row .a ≡ opBorrowFld) ⊎ (rowAt t row .a ≡ opBorrowGlobal))
+  -- Freeze's is the read-only one to what the operand leads to
+  pub to-frozen : {w : Bool} {r : Ref} {v : Value} {rest : List Value} → rowAt t row .a ≡ opFreeze → ops ≡ refer w r ∷ rest → Makes t row id p ops (frame id p i ops ls ∷ fs) rs st v → v ≡ refer false r
+  to-frozen g s (local-made b) = absurd (omega (arith, b, g))
+  to-frozen g s (field-made b d w) = absurd (omega (arith, b, g))
+  to-frozen g s (nested-made b d w u) = absurd (omega (arith, b, g))
+  to-frozen g s (entry-made b d w) = absurd (omega (arith, b, g))
+  to-frozen {r} g s (frozen-made {r = q} b d) = let x : q ≡ r = cc (d, s) in ap (λ (y : Ref). refer false y) x
+
+  -- a writable one comes of a step that lends
+  pub lends : {r : Ref} {v : Value} → v ≡ refer true r → Makes t row id p ops (frame id p i ops ls ∷ fs) rs st v → Lends t row ops
+  lends e (local-made b) = inl b
+  lends e (field-made {r = q} {under} b d w) = inr (inr (b, (q, under, d, cc (e))))
+  lends e (nested-made {r = q} {under} b d w u) = inr (inr (b, (q, under, d, cc (e))))
+  lends e (entry-made b d w) = inr (inl b)
+  lends e (frozen-made b d) = absurd (clash (cc))
+
+  pub borrows : {v : Value} → Makes t row id p ops (frame id p i ops ls ∷ fs) rs st v → (rowAt t row .a ≡ opBorrowLoc) ⊎ ((rowAt t row .a ≡ opBorrowFld) ⊎ ((rowAt t row .a ≡ opBorrowGlobal) ⊎ (rowAt t row .a ≡ opFreeze)))
   borrows (local-made a) = inl a
   borrows (field-made a b w) = inr (inl a)
   borrows (nested-made a b w u) = inr (inl a)
-  borrows (entry-made a b w) = inr (inr a)
+  borrows (entry-made a b w) = inr (inr (inl a))
+  borrows (frozen-made a b) = inr (inr (inr a))
 
 -- where references come from: frame id of procedure p is at instruction i
 module _ (t : List ℕ) (ix : Index) (row id p i : ℕ) (ops : List Value) (ls : List (Option Value)) (fs : List Frame) (rs : List Cell) (st : List Entry) (n : ℕ) where
@@ -344,7 +385,7 @@ module _ (t : List ℕ) (ix : Index) (row id p i : ℕ) (ops : List Value) (ls :
   -- a reference that any frame holds after a safe step some frame held before, or the step made it
   pub held-before : {fs′ : List Frame} {rs′ : List Cell} {st′ : List Entry} {n′ : ℕ} → Safe t ix (moment (state (frame id p i ops ls ∷ fs) rs st n) row (next (state fs′ rs′ st′ n′)))
       → (v : Value) → IsReference v → (f : Frame) → Mem f fs′ → Holds f v → HeldBy (frame id p i ops ls ∷ fs) v ⊎ Makes t row id p ops (frame id p i ops ls ∷ fs) rs st v
-  held-before (safe s (goes a b c)) v r f m h = from-before v r b c (f, m, h)
+  held-before (safe s (goes a b c d)) v r f m h = from-before v r b c (f, m, h)
 
 -- the events of a list of calls
 module _ (t : List ℕ) (ix : Index) where

@@ -1,6 +1,7 @@
 -- Demand 3, over every event of a list of calls.
 use Prim.Native.Nat.{ℕ, _+_, _-_, _<_, _≤_}
 use mathlib.Core.Path.{_≡_, refl, ap, sym, _∙_}
+use mathlib.Core.Bool.{true}
 use mathlib.Core.List.{List, [], _∷_, map}
 use mathlib.Core.Option.{Option}
 use mathlib.Core.Logic.{_⊎_, inl, inr, ⊎-elim}
@@ -15,14 +16,14 @@ use Rattle.declarations.specs.Program.{procedureIn, instructionIn}
 use Rattle.judging.specs.Judging.{judgeOf}
 use Rattle.acceptance.specs.Judged.{Bytes, Judged}
 use Rattle.acceptance.proofs.Judged.{judged}
-use Rattle.semantics.specs.Machine.{Value, toField, Cell, Entry, Frame, frame, State, state, Outcome, next, finished, stopped, stuck}
+use Rattle.semantics.specs.Machine.{toField, Value, refer, Cell, Entry, Frame, frame, State, state, Outcome, next, finished, stopped, stuck}
 use Rattle.semantics.specs.Step.{instruction, step}
 use Rattle.semantics.specs.Calls.{Call, listOf, callsOf}
 use Rattle.semantics.specs.History.{Base, base, Event, moment, ended, bury, restored, afterwards, nothing}
 use Rattle.semantics.specs.Run.{historyOf}
 use Rattle.semantics.specs.Words.{moduleOf, operand, Exists, IsEntry}
 use Rattle.semantics.specs.Callable.{GoodCall}
-use Rattle.semantics.specs.Claim.{All, none-left, also, IsNumber, Owned, Sound, Ready, Kept, Proper, By, SafeOutcome, goes as goes-on, returnsLast, stops as stops-there, Restored, finishes, restores, Between, Later, Safe, safe, ends as ends-there}
+use Rattle.semantics.specs.Claim.{All, none-left, also, IsNumber, Owned, Sound, Ready, Kept, Proper, By, Freezes, SafeOutcome, goes as goes-on, returnsLast, stops as stops-there, Restored, finishes, restores, Between, Later, Safe, safe, ends as ends-there}
 use Rattle.semantics.specs.Chain.{Chained, Claimed}
 use Rattle.semantics.proofs.Changes.{clash, grows, Limited}
 use Rattle.semantics.proofs.Indexed.{moduleIn, declarerIn}
@@ -30,7 +31,7 @@ use Rattle.semantics.proofs.Sounds.{changed-ok, written-ok, fields-ok, 
 use Rattle.semantics.proofs.Typing.{CellOk, EntryOk}
 use Rattle.semantics.proofs.Frames.{FrameOk, Stack, runs, typeOf, Inv}
 use Rattle.semantics.proofs.Running.{Rest, OutcomeOk}
-use Rattle.semantics.proofs.Steps.{DidAt, runs-on, takes-there}
+use Rattle.semantics.proofs.Steps.{DidAt, runs-on, takes-there, writes-through, freeze-finds, kinds-found, freeze-runs}
 use Rattle.semantics.proofs.Guests.{stack-kept}
 use Rattle.semantics.proofs.Owning.{nested, plain, reached, shaped, entries-typed}
 use Rattle.semantics.proofs.Worded.{types-are, procedures-are, type-is, procedure-is, declarer-is, module-is}
@@ -38,6 +39,7 @@ use Rattle.semantics.proofs.Placed.{place-is, end-is, row-is, kind-is, 
 use Rattle.semantics.proofs.Labels.{types-hold, links}
 use Rattle.semantics.proofs.Outcomes.{goes, ends}
 use Rattle.semantics.proofs.Callable.{good-calls}
+use Rattle.semantics.proofs.ReadOnly.{freezes}
 use Rattle.semantics.proofs.Invariant.{used, usedAt, Within, BaseOk, MomentOk, EndOk, EventOk, HandedAt, handed-at, outcome-ok, restored-ok, restored-length, buried-dead, chain-ok, nothing-ok}
 use Rattle.semantics.proofs.Every.{chained}
 
@@ -90,9 +92,11 @@ module _ (t : List ℕ) (J : Judged t (indexOf t)) where
           body = procedure-is t (J .accepted) p (f .there) few;
           standsIn = stands-in;
           guests = guests-are t (J .accepted) p (f .there) few i (f .inside);
+          kinds = kinds-found t J f;
           fit = z .0;
           operands = z .1;
           moves = moves;
+          through = λ e. writes-through t J f (inl (ap (λ (r : Row). r .a) found ∙ e));
         }
 
     -- the instruction works on a type of its own module
@@ -115,7 +119,7 @@ module _ (t : List ℕ) (J : Judged t (indexOf t)) where
         record {
           changed = λ id y j x x′ g a b. ((λ d. let z = changed-ok k id y j x x′ a b d in (x′, (sym op ∙ z .0, z .1), d)), λ w d. w .2 (d ∙ written-ok k id y j x′ (w .0) (w .1 .1 .0) b (op ∙ w .1 .0) (w .1 .1 .1)));
           written = λ id y j x x′ z a b w. written-ok k id y j x′ z (w .1 .0) b (op ∙ w .0) (w .1 .1);
-          own = λ id y j z g w. own (toField id y j) (operand (head-of (w .1 .1))) (id, y, j, refl, g) .1 id y j refl ∙ sym stands-in;
+          own = λ id y j z g w. own (refer true (toField id y j)) (operand (head-of (w .1 .1))) (id, y, j, refl, g) .1 id y j refl ∙ sym stands-in;
           fields = λ id y vs vs′ a b. ⊎-elim (λ z. inl z) (λ z. inr (z .0, z .1, z .2, (sym op ∙ z .3, z .4))) (fields-ok k id y vs vs′ a b);
           made = λ id y a n. by opPack y (omega arith) (omega arith) (made-ok k id y a n);
           broken = λ id y a n. by opUnpack y (omega arith) (omega arith) (broken-ok k id y a n);
@@ -135,15 +139,26 @@ module _ (t : List ℕ) (J : Judged t (indexOf t)) where
           unkeyed = unkeyed-ok k;
         }
 
+    -- what Freeze does
+    frozen-by : (fs fs′ : List Frame) (h h′ : List Cell) (st st′ : List Entry) (n n′ : ℕ) → next (state fs′ h′ st′ n′) ≡ step t (indexOf t) (state (frame id p i ops ls ∷ fs) h st n)
+        → Freezes t (indexOf t) here-row id p i ops ls fs h st fs′ h′ st′
+    unfolding instruction
+    frozen-by fs fs′ h h′ st st′ n n′ q e =
+        let a = ap (λ (r : Row). r .a) found ∙ e in
+        let z = freeze-finds t J f a in
+        let d = q ∙ ap (λ (o : List Value). step t (indexOf t) (state (frame id p i o ls ∷ fs) h st n)) (z .2) ∙ freezes t (indexOf t) id p i (z .1) ls fs h st n (z .0) a (z .3) in
+        (z .0, z .1, z .2, cc (d), cc (d), cc (d))
+
     -- what comes of it
     outcome : {fs : List Frame} {h : List Cell} {st : List Entry} {n : ℕ} (o : Outcome) → Kept t (frame id p i ops ls) → Sound t (frame id p i ops ls ∷ fs) h st
-        → OutcomeOk t (DidAt t (state (frame id p i ops ls ∷ fs) h st n)) o → HandedAt t J (state (frame id p i ops ls ∷ fs) h st n) o → SafeOutcome t (indexOf t) here-row id p i ops ls fs h st n o
-    outcome {fs} {n} (next (state fs′ h′ st′ n′)) own s k (goes q) =
+        → OutcomeOk t (DidAt t (state (frame id p i ops ls ∷ fs) h st n)) o → HandedAt t J (state (frame id p i ops ls ∷ fs) h st n) o → o ≡ step t (indexOf t) (state (frame id p i ops ls ∷ fs) h st n) → SafeOutcome t (indexOf t) here-row id p i ops ls fs h st n o
+    unfolding instruction
+    outcome {fs} {h} {st} {n} (next (state fs′ h′ st′ n′)) own s k (goes q) e =
         let v = k .0 in
-        goes-on (proper n {fs = fs} own s (entries-typed t J (v .T) h′ (v .types) (v .records) fs′ st′ (v .store) (v .owned)) (k .1)) (q .0) (q .1)
-    outcome (finished vs z) own s k (ends q) = rw (q .3) (returnsLast (q .0) (q .1) (q .2))
-    outcome (stopped j) own s k q = stops-there
-    outcome stuck own s k q = absurd k
+        goes-on (proper n {fs = fs} own s (entries-typed t J (v .T) h′ (v .types) (v .records) fs′ st′ (v .store) (v .owned)) (k .1)) (q .0) (q .1) (frozen-by fs fs′ h h′ st st′ n n′ e)
+    outcome (finished vs z) own s k (ends q) e = rw (q .3) (returnsLast (q .0) (q .1) (q .2))
+    outcome {fs} {h} {st} {n} (stopped j) own s k q e = stops-there (λ z. absurd (freeze-runs t (indexOf t) id p i ops ls fs h st n (ap (λ (r : Row). r .a) found ∙ z) j (sym e)))
+    outcome stuck own s k q e = absurd k
 
   -- a moment is safe
   handed-moment : (s : State) (row : ℕ) (o : Outcome) → MomentOk t J s row o → (o ≡ step t (indexOf t) s) → HandedAt t J s o
@@ -153,7 +168,7 @@ module _ (t : List ℕ) (J : Judged t (indexOf t)) where
       → MomentOk t J (state (frame id p i ops ls ∷ fs) h st n) row o → Kept t (frame id p i ops ls) → Sound t (frame id p i ops ls ∷ fs) h st
       → SafeOutcome t (indexOf t) (procedureIn (indexOf t) p .code + i) id p i ops ls fs h st n o
   safe-outcome f row o m own s =
-      ⊎-elim (λ e. outcome f o own s (outcome-ok t J _ row o m) (handed-moment _ row o m e)) (λ e. rw e stops-there) (m .did)
+      ⊎-elim (λ e. outcome f o own s (outcome-ok t J _ row o m) (handed-moment _ row o m e) e) (λ e. rw e (stops-there (λ z. refl))) (m .did)
 
   safe-moment : (s : State) (row : ℕ) (o : Outcome) → MomentOk t J s row o → Safe t (indexOf t) (moment s row o)
   safe-moment (state fs h st n) row o m = go fs (m .holds .frames) m

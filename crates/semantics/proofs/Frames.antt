@@ -2,7 +2,7 @@
 use Prim.Native.Nat.{ℕ, zero, suc, _+_, _<_, _≤_}
 use mathlib.Core.Path.{_≡_, refl, ap, sym, _∙_}
 use mathlib.Core.List.{List, [], _∷_, _++_, map}
-use mathlib.Core.Bool.{Bool, true, false, cond, _&&_}
+use mathlib.Core.Bool.{Bool, true, false, cond, _&&_, true≢false}
 use mathlib.Core.Option.{Option, none, some}
 use mathlib.Core.Logic.{_⊎_, inl, inr, ⊎-elim}
 use native.Mathlib.Omega.{arith}
@@ -12,19 +12,20 @@ use borrow.Author.Tests.{eqb-true}
 use Rattle.table.specs.declared.index.Index.{Index}
 use Rattle.table.specs.Format.{opCall, maxResults}
 use Rattle.table.specs.Rows.{rowCount}
-use Rattle.declarations.specs.Program.{number, recordOf, numberRef, recordRef, procedureIn, typeIn, fieldKinds, resultKinds, codeOf, instructionIn}
+use Rattle.declarations.specs.Program.{number, recordOf, numberRef, recordRef, referenceTo, isReference, procedureIn, typeIn, fieldKinds, resultKinds, codeOf, instructionIn}
 use Rattle.effects.specs.Kinds.{good}
 use Rattle.operands.specs.Operands.{kindsBefore}
 use Rattle.operands.specs.Flow.{onto}
 use Rattle.flow.specs.Walks.{Slot, pushedOn as marksOn}
 use Rattle.acceptance.specs.Checked.{WalkOf}
 use Rattle.acceptance.specs.Judged.{localKinds}
-use Rattle.semantics.specs.Machine.{Value, num, obj, toLocal, toField, toRecord, Cell, gone, here, Entry, entry, Frame, frame, content, localOf, putLocal, findKey, dropKey, aRecord, stale, inCell, inLocal, target}
+use Rattle.semantics.specs.Machine.{toLocal, toField, toRecord, Value, num, obj, refer, asKind, writable, Cell, gone, here, Entry, entry, Frame, frame, content, localOf, putLocal, findKey, dropKey, aRecord, stale, inCell, inLocal, target}
 use Rattle.semantics.specs.Calls.{allNumbers}
 use Rattle.semantics.specs.Ownership.{inFrames}
 use Rattle.semantics.proofs.Indexed.{moduleIn}
 use Rattle.semantics.specs.Claim.{All, none-left, also, Owned}
 use Rattle.semantics.proofs.Changes.{clash}
+use Rattle.semantics.proofs.Sorts.{record-plain, number-writable, record-writable, to-writable, as-reference, as-large, as-same}
 use Rattle.semantics.proofs.Typing.{Word, Fit, fnum, fobj, floc, ffld, frec, Has, Slots, Fields, dnil, dnum, dobj, CellOk, EntryOk, _⊑_, has-more, slots-more}
 use Rattle.semantics.proofs.Places.{as-number, as-record, slot-read, slot-write, held-write}
 
@@ -231,8 +232,8 @@ field-put (dobj a q f) (suc j) x n e u = dobj a q (field-put f j x n e u)
 -- a reference to a number leads to one, or is stale
 pub data NumberAt (fs : List Frame) (h : List Cell) (T : List ℕ) (t : List ℕ) (ix : Index) : Value → Type 0 where
   lost : {v : Value} → target fs h v ≡ stale → NumberAt fs h T t ix v
-  inALocal : {f l n k : ℕ} → Word n → localOf fs f l ≡ some (num n) → NumberAt fs h T t ix (toLocal f l k)
-  inAField : {id y j n : ℕ} {vs : List Value} → Word n → nth h id ≡ some (here y vs) → nth vs j ≡ some (num n) → y < ix .types → Fields T vs (fieldKinds t (typeIn ix y)) → NumberAt fs h T t ix (toField id y j)
+  inALocal : {w : Bool} {f l n k : ℕ} → Word n → localOf fs f l ≡ some (num n) → NumberAt fs h T t ix (refer w (toLocal f l k))
+  inAField : {w : Bool} {id y j n : ℕ} {vs : List Value} → Word n → nth h id ≡ some (here y vs) → nth vs j ≡ some (num n) → y < ix .types → Fields T vs (fieldKinds t (typeIn ix y)) → NumberAt fs h T t ix (refer w (toField id y j))
 
 -- a reference to a record leads to one of its type, or is stale
 pub data RecordAt (fs : List Frame) (h : List Cell) (T : List ℕ) (t : List ℕ) (ix : Index) (y : ℕ) : Value → Type 0 where
@@ -240,31 +241,31 @@ pub data RecordAt (fs : List Frame) (h : List Cell) (T : List ℕ) (t : List ℕ
   leads : {v : Value} (id : ℕ) (vs : List Value) → target fs h v ≡ aRecord id vs → nth T id ≡ some y → y < ix .types → Fields T vs (fieldKinds t (typeIn ix y)) → RecordAt fs h T t ix y v
 
 module _ {t : List ℕ} {ix : Index} {T W : List ℕ} {fs : List Frame} {h : List Cell} (stk : Stack t ix T W fs) (ty : map typeOf h ≡ T) (hp : All (CellOk t ix T) h) where
-  local-number : (f l k : ℕ) (o : Option Value) → k ≡ number → localOf fs f l ≡ o → Found t ix T W k o → NumberAt fs h T t ix (toLocal f l k)
-  local-number f l k none d e nothing = lost {v = toLocal f l k} (rw e refl)
-  local-number f l k (some v) d e (holds u) = let r = as-number u d in inALocal {f = f} {l = l} {n = r .0} {k = k} (r .2) (cc (r .1))
+  local-number : (w : Bool) (f l k : ℕ) (o : Option Value) → k ≡ number → localOf fs f l ≡ o → Found t ix T W k o → NumberAt fs h T t ix (refer w (toLocal f l k))
+  local-number w f l k none d e nothing = lost {v = refer w (toLocal f l k)} (rw e refl)
+  local-number w f l k (some v) d e (holds u) = let r = as-number u d in inALocal {w = w} {f = f} {l = l} {n = r .0} {k = k} (r .2) (cc (r .1))
 
-  pub number-at : {m : ℕ} {v : Value} {k : ℕ} {b : Bool} → Fit t ix T W m v k b → k ≡ numberRef → NumberAt fs h T t ix v
-  number-at (fnum y q) e = absurd (omega arith)
-  number-at (fobj a q) e = absurd (omega arith)
-  number-at (floc {f} {l} {p} {c} a d r q) e = local-number f l c (localOf fs f l) (omega arith) refl (find stk f p l c a d)
-  number-at (ffld {id} {y} {j} a d c q) e =
-      ⊎-elim (λ z. lost {v = toField id y j} (rw z refl)) (λ z. let r = field-num (z .3) j d in inAField (r .2) (z .1) (r .1) (z .2) (z .3)) (cell-at t ix T h id y (rw ty a) hp)
-  number-at (frec a q) e = absurd (omega arith)
+  pub number-at : {m : ℕ} {v : Value} {k : ℕ} {b : Bool} (u : Bool) → Fit t ix T W m v k b → k ≡ asKind u numberRef → NumberAt fs h T t ix v
+  number-at u (fnum y q) e = absurd (omega (arith, as-large u numberRef, q, e))
+  number-at u (fobj {y} a q) e = absurd (true≢false (sym (as-reference u numberRef number-writable) ∙ ap isReference (sym e ∙ q) ∙ record-plain y))
+  number-at u (floc {w} {f} {l} {p} {c} a d r q) e = local-number w f l c (localOf fs f l) (omega (arith, as-same w u (referenceTo c) numberRef (to-writable c r) number-writable (sym q ∙ e) .1)) refl (find stk f p l c a d)
+  number-at u (ffld {w} {id} {y} {j} a d c q) e =
+      ⊎-elim (λ z. lost {v = refer w (toField id y j)} (rw z refl)) (λ z. let r = field-num (z .3) j d in inAField (r .2) (z .1) (r .1) (z .2) (z .3)) (cell-at t ix T h id y (rw ty a) hp)
+  number-at u (frec {w} {y} a q) e = absurd (omega (arith, as-same w u (recordRef y) numberRef (record-writable y) number-writable (sym q ∙ e) .1))
 
   in-cell : (v : Value) (id y : ℕ) → target fs h v ≡ inCell id (nth h id) → nth T id ≡ some y → RecordAt fs h T t ix y v
   in-cell v id y l a = ⊎-elim (λ e. lostRecord {v = v} (rw e at l)) (λ e. leads {v = v} id (e .0) (rw (e .1) at l) a (e .2) (e .3)) (cell-at t ix T h id y (rw ty a) hp)
 
-  local-record : (f l y k : ℕ) (o : Option Value) → k ≡ recordOf y → localOf fs f l ≡ o → Found t ix T W k o → RecordAt fs h T t ix y (toLocal f l k)
-  local-record f l y k none d e nothing = lostRecord {v = toLocal f l k} (rw e refl)
-  local-record f l y k (some v) d e (holds u) = let r = as-record y u d in in-cell (toLocal f l k) (r .0) y (ap (inLocal h) (e ∙ ap {B = Option Value} some (r .1))) (r .2)
+  local-record : (w : Bool) (f l y k : ℕ) (o : Option Value) → k ≡ recordOf y → localOf fs f l ≡ o → Found t ix T W k o → RecordAt fs h T t ix y (refer w (toLocal f l k))
+  local-record w f l y k none d e nothing = lostRecord {v = refer w (toLocal f l k)} (rw e refl)
+  local-record w f l y k (some v) d e (holds u) = let r = as-record y u d in in-cell (refer w (toLocal f l k)) (r .0) y (ap (inLocal h) (e ∙ ap {B = Option Value} some (r .1))) (r .2)
 
-  pub record-at : {m : ℕ} {v : Value} {k : ℕ} {b : Bool} (y : ℕ) → Fit t ix T W m v k b → k ≡ recordRef y → RecordAt fs h T t ix y v
-  record-at y (fnum w q) e = absurd (omega arith)
-  record-at y (fobj a q) e = absurd (omega arith)
-  record-at y (floc {f} {l} {p} {c} a d r q) e = local-record f l y c (localOf fs f l) (omega arith) refl (find stk f p l c a d)
-  record-at y (ffld a d c q) e = absurd (omega arith)
-  record-at y (frec {id} {y = z} a q) e = let x : z ≡ y = omega arith in in-cell (toRecord id z) id y refl (a ∙ ap {B = Option ℕ} some x)
+  pub record-at : {m : ℕ} {v : Value} {k : ℕ} {b : Bool} (u : Bool) (y : ℕ) → Fit t ix T W m v k b → k ≡ asKind u (recordRef y) → (writable v ≡ u) × RecordAt fs h T t ix y v
+  record-at u y (fnum w q) e = absurd (omega (arith, as-large u (recordRef y), q, e))
+  record-at u y (fobj {y = z} a q) e = absurd (true≢false (sym (as-reference u (recordRef y) (record-writable y)) ∙ ap isReference (sym e ∙ q) ∙ record-plain z))
+  record-at u y (floc {w} {f} {l} {p} {c} a d r q) e = let s = as-same w u (referenceTo c) (recordRef y) (to-writable c r) (record-writable y) (sym q ∙ e) in (s .0, local-record w f l y c (localOf fs f l) (omega (arith, s .1)) refl (find stk f p l c a d))
+  record-at u y (ffld {w} a d c q) e = absurd (omega (arith, as-same w u numberRef (recordRef y) number-writable (record-writable y) (sym q ∙ e) .1))
+  record-at u y (frec {w} {id} {y = z} a q) e = let s = as-same w u (recordRef z) (recordRef y) (record-writable z) (record-writable y) (sym q ∙ e) in let x : z ≡ y = omega (arith, s .1) in (s .0, in-cell (refer w (toRecord id z)) id y refl (a ∙ ap {B = Option ℕ} some x))
 
 -- what a field holds, by its kind: a number, or a record
 pub data FieldAt (T : List ℕ) (k : ℕ) : Option Value → Type 0 where

@@ -1,4 +1,4 @@
--- What the frames of a state hold: a reference to a guarded field stands in a frame of the declaring module, and in none of a guestIn.
+-- What the frames of a state hold: a writable reference to a guarded field stands in a frame of the declaring module, and in none of a guest.
 use Prim.Native.Nat.{ℕ, zero, suc, _+_}
 use mathlib.Core.Path.{_≡_, refl, ap, sym, _∙_}
 use mathlib.Core.List.{List, [], _∷_, List·Memᴰ·cases-cons, List·Memᴰ·not-nil}
@@ -15,7 +15,7 @@ use Rattle.flow.specs.Walks.{Slot, empty, markOf, pushedOn as marksOn}
 use Rattle.leaks.specs.Leaks.{inTrusted}
 use Rattle.judging.specs.Judging.{AcceptedTable}
 use Rattle.acceptance.specs.Judged.{Judged}
-use Rattle.semantics.specs.Machine.{Value, toField, Frame, frame}
+use Rattle.semantics.specs.Machine.{toField, Value, refer, Frame, frame}
 use Rattle.semantics.specs.Words.{moduleOf, declarer, guest, GuardedReference, operand, local}
 use Rattle.semantics.proofs.Indexed.{moduleIn, declarerIn, guestIn, guardedIn}
 use Rattle.semantics.proofs.Worded.{guarded-is, declarer-is, module-is, guest-is}
@@ -44,12 +44,12 @@ module _ {t : List ℕ} {ix : Index} {T W : List ℕ} {m : ℕ} where
   slot-place {v} (sfull {v = w} {k} f s) zero e = let z : w ≡ v = cc in (k, refl, rw z at f)
   slot-place (sfull f s) (suc l) e = slot-place s l e
 
-  -- a reference to a guarded field stands at a marked place, in the declaring module
-  guarded-fit : {v : Value} {k : ℕ} {b : Bool} (id y j : ℕ) → Fit t ix T W m v k b → v ≡ toField id y j → guardedIn t ix y j ≡ true → (b ≡ true) × (declarerIn ix y ≡ m)
+  -- a writable reference to a guarded field stands at a marked place, in the declaring module
+  guarded-fit : {v : Value} {k : ℕ} {b : Bool} (id y j : ℕ) → Fit t ix T W m v k b → v ≡ refer true (toField id y j) → guardedIn t ix y j ≡ true → (b ≡ true) × (declarerIn ix y ≡ m)
   guarded-fit id y j (fnum w q) e g = absurd (clash (cc))
   guarded-fit id y j (fobj a q) e g = absurd (clash (cc))
   guarded-fit id y j (floc a d c q) e g = absurd (clash (cc))
-  guarded-fit id y j (ffld {y = z} {j = i} a d c q) e g = let x : z ≡ y = cc in let w : i ≡ j = cc in rw (x, w) at c g
+  guarded-fit id y j (ffld {w = u} {y = z} {j = i} a d c q) e g = let o : u ≡ true = cc in let x : z ≡ y = cc in let w : i ≡ j = cc in rw (x, w) at c o g
   guarded-fit id y j (frec a q) e g = absurd (clash (cc))
 
 module _ {t : List ℕ} {T W : List ℕ} (judged : Judged t (indexOf t)) (accepted : AcceptedTable t) where
@@ -69,7 +69,7 @@ module _ {t : List ℕ} {T W : List ℕ} (judged : Judged t (indexOf t)) (accept
         go false q = absurd (true≢false (sym e ∙ c q))
 
     fits-kept : {v : Value} {k : ℕ} (b : Bool) → Fit t (indexOf t) T W (moduleIn (indexOf t) p) v k b → (inTrusted t (indexOf t) (procedureIn (indexOf t) p) ≡ false → b ≡ false) → GuardedReference t v
-        → (guest t p ≡ false) × ((id′ y j : ℕ) → v ≡ toField id′ y j → declarer t y ≡ moduleOf t p)
+        → (guest t p ≡ false) × ((id′ y j : ℕ) → v ≡ refer true (toField id′ y j) → declarer t y ≡ moduleOf t p)
     fits-kept b x c g =
         let few = judged .procedure p (f .there) .low in
         let w = guarded-is t accepted (g .1) (g .2) (g .4) in

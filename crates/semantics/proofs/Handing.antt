@@ -10,22 +10,23 @@ use lib.ListN.{length, getD, set, getElem? as nth}
 use lib.Dec.{eqb, ltb}
 use Rattle.table.specs.declared.index.Index.{Index}
 use Rattle.table.specs.declared.index.ProcedureEntry.{ProcedureEntry}
+use Rattle.table.specs.Format.{opWriteRef, opFreeze}
 use Rattle.table.specs.Rows.{rowAt}
 use Rattle.declarations.specs.Program.{procedureIn, localCount, localKind}
 use Rattle.reach.specs.Reach.{Mem}
 use Rattle.arithmetic.specs.declared.Calculated.{Calculated}
 use Rattle.arithmetic.specs.declared.Calculated.the-variants.{Value as Gives, OutOfRange, Unknown}
 use Rattle.arithmetic.specs.Arithmetic.{calculation}
-use Rattle.semantics.specs.Machine.{Value, num, obj, toLocal, toField, toRecord, valueKind, Cell, gone, here, Entry, Frame, frame, State, state, next, stuck, liveCount, findKey, putLocal, Target, aRecord, inCell, target, writeFrames}
+use Rattle.semantics.specs.Machine.{Ref, toLocal, toField, toRecord, Value, num, obj, refer, valueKind, writable, Cell, gone, here, Entry, Frame, frame, State, state, next, stuck, liveCount, findKey, putLocal, Target, aRecord, inCell, target, writeFrames}
 use Rattle.semantics.specs.Step.{pushedOn, Taken, took, missing, taken, alsoTaken, withTaken, startLocals, returned, noneHeld, calculated, actions, instruction, effectAt, act, step}
 use Rattle.semantics.specs.Limits.{maxFrames, maxRecords, maxEntries}
 use Rattle.semantics.specs.Words.{bodyOf, Holds, operand, local}
-use Rattle.semantics.specs.Claim.{All, none-left, also, Rising, IsReference, Makes, local-made, field-made, nested-made, entry-made, Takes, Handed, goesOn, writes, calls, returns, Origin}
+use Rattle.semantics.specs.Claim.{All, none-left, also, Rising, IsReference, Makes, local-made, field-made, nested-made, entry-made, frozen-made, Takes, Handed, goesOn, writes, calls, returns, Origin}
 use Rattle.semantics.proofs.Changes.{clash}
 use Rattle.semantics.proofs.Typing.{Fields, dnil, dnum, dobj, CellOk}
 use Rattle.semantics.proofs.Frames.{all-set}
 use Rattle.semantics.proofs.Running.{target-same}
-use Rattle.semantics.proofs.Outcomes.{OutQ, goes, ends, stops, sticks, cond-q, local-q, one-q, two-q, number-q, record-q, number-at-q, record-at-q, fields-at-q, fillable-q, field-q, key-q, under-q, pick}
+use Rattle.semantics.proofs.Outcomes.{OutQ, goes, ends, stops, sticks, cond-q, local-q, one-q, two-q, number-q, record-q, reference-q, number-at-q, record-at-q, fields-at-q, fillable-q, field-q, key-q, under-q, pick}
 
 -- lists
 pub all-in : {A : Type 0} (Q : A → Type 0) (l : List A) → ((x : A) → Mem x l → Q x) → All Q l
@@ -97,10 +98,11 @@ apart op k o e = (λ q. no-call (k) o (sym e ∙ q), λ q. no-ret k o (sym e ∙
     no-ret : (k : ℕ) → (not (eqb k 15) && not (eqb k 16)) ≡ true → k ≡ 16 → ⊥
     no-ret k o q = let z : (not (eqb 16 15) && not (eqb 16 16)) ≡ true = rw q at o in clash (ap (λ (b : Bool). cond b 1 0) z)
 
--- Frame id of procedure p at instruction i, whose row is `row`
+-- Frame id of procedure p at instruction i, whose row is `row`. WriteRef and Freeze find a writable reference on top
 module _ (t : List ℕ) (ix : Index) (T : List ℕ) (row id p i : ℕ) (ops : List Value) (ls : List (Option Value)) (fs : List Frame) (rs : List Cell) (st : List Entry) (n : ℕ)
     (records : All (CellOk t ix T) rs) (rising : Rising n (frame id p i ops ls ∷ fs)) (body : procedureIn ix p ≡ bodyOf t p)
-    (callee : rowAt t row .a ≡ 15 → procedureIn ix (rowAt t row .b) ≡ bodyOf t (rowAt t row .b)) where
+    (callee : rowAt t row .a ≡ 15 → procedureIn ix (rowAt t row .b) ≡ bodyOf t (rowAt t row .b))
+    (through : (rowAt t row .a ≡ opWriteRef) ⊎ (rowAt t row .a ≡ opFreeze) → (w : Bool) (r : Ref) (rest : List Value) → ops ≡ refer w r ∷ rest → w ≡ true) where
   abbrev here-now : List Frame
   here-now = frame id p i ops ls ∷ fs
 
@@ -167,9 +169,15 @@ module _ (t : List ℕ) (ix : Index) (T : List ℕ) (row id p i : ℕ) (ops : Li
     written : (r : Value) (x : ℕ) {rs′ : List Cell} → rowAt t row .a ≡ 7 → ops ≡ r ∷ num x ∷ under → OutQ G E (next (state (writeFrames (frame id p (i + 1) under ls ∷ fs) r (num x)) rs′ st n))
     written (num m) x e s = on 7 (i + 1) {ws = []} refl e none-left slots-known
     written (obj c y) x e s = on 7 (i + 1) {ws = []} refl e none-left slots-known
-    written (toLocal f l k) x e s = goes (writes e s, put-known (eqb id f) f l x)
-    written (toField c y j) x e s = on 7 (i + 1) {ws = []} refl e none-left slots-known
-    written (toRecord c y) x e s = on 7 (i + 1) {ws = []} refl e none-left slots-known
+    written (refer w (toLocal f l k)) x e s = goes (writes e (s ∙ ap (λ (u : Bool). refer u (toLocal f l k) ∷ num x ∷ under) (through (inl e) w (toLocal f l k) (num x ∷ under) s)), put-known (eqb id f) f l x)
+    written (refer w (toField c y j)) x e s = on 7 (i + 1) {ws = []} refl e none-left slots-known
+    written (refer w (toRecord c y)) x e s = on 7 (i + 1) {ws = []} refl e none-left slots-known
+
+    -- Freeze makes a reference that it took read-only
+    frozen : rowAt t row .a ≡ 20 → (v : Value) (w : Bool) (r : Ref) → vs ≡ v ∷ [] → v ≡ refer w r → Known (refer false r)
+    frozen e v w r q u k =
+        let s : ops ≡ refer w r ∷ under = top (refer w r) (q ∙ ap (λ (x : Value). x ∷ []) u) in
+        inr (frozen-made e (s ∙ ap (λ (x : Bool). refer x r ∷ under) (through (inr e) w r under s)))
 
     back : (gs : List Frame) → fs ≡ gs → rowAt t row .a ≡ 16 → under ≡ [] → OutQ G E (returned gs vs rs st n)
     back [] q e u = ends (e, rw u at takes, q, refl)
@@ -197,10 +205,10 @@ module _ (t : List ℕ) (ix : Index) (T : List ℕ) (row id p i : ℕ) (ops : Li
     only : (v : Value) → vs ≡ v ∷ [] → Known v
     only v q = all-nth (split .0) 0 v (ap (λ (l : List Value). nth l 0) q)
 
-    borrowed : rowAt t row .a ≡ 5 → Known (toLocal id b (localKind t (procedureIn ix p) b))
+    borrowed : rowAt t row .a ≡ 5 → Known (refer true (toLocal id b (localKind t (procedureIn ix p) b)))
     borrowed e k = inr (made-by body)
       where
-        made-by : {c : ProcedureEntry} → c ≡ bodyOf t p → Makes t row id p ops here-now rs st (toLocal id b (localKind t c b))
+        made-by : {c : ProcedureEntry} → c ≡ bodyOf t p → Makes t row id p ops here-now rs st (refer true (toLocal id b (localKind t c b)))
         made-by c = rw c (local-made e)
 
     given : rowAt t row .a ≡ 19 → (c : Calculated) → OutQ G E (calculated (rowAt t row .b) (rowAt t row .d) (localKind t (procedureIn ix p) (rowAt t row .b)) (localCount (procedureIn ix (rowAt t row .b)) - length vs) vs id p i under ls fs rs st n c)
@@ -221,15 +229,15 @@ module _ (t : List ℕ) (ix : Index) (T : List ℕ) (row id p i : ℕ) (ops : Li
             (
               (λ e. one-q G E vs _ (λ v q. fillable-q G E (nth ls b) _ (on 4 (i + 1) {ws = []} refl e none-left (all-set slots-known b (some v) (only v q))))),
               (
-                (λ e. local-q G E (nth ls b) _ (λ v q. on 5 (i + 1) {ws = toLocal id b (localKind t (procedureIn ix p) b) ∷ []} refl e (also (borrowed e) none-left) slots-known)),
+                (λ e. local-q G E (nth ls b) _ (λ v q. on 5 (i + 1) {ws = refer true (toLocal id b (localKind t (procedureIn ix p) b)) ∷ []} refl e (also (borrowed e) none-left) slots-known)),
                 (
                   (λ e. one-q G E vs _ (λ r q. number-at-q G E (lead r) _ (λ x. on 6 (i + 1) {ws = num x ∷ []} refl e (also (number-known x) none-left) slots-known))),
                   (
                     (λ e. two-q G E vs _ (λ v r q. number-q G E v _ (λ x w. number-at-q G E (lead r) _ (λ y. written r x e (shape ∙ ap (λ (l : List Value). pushedOn l under) (q ∙ ap (λ (u : Value). u ∷ r ∷ []) w)))))),
                     (
                       (λ e. one-q G E vs _ (λ r q. record-at-q G E (lead r) _ (λ c ws z. field-q G E c (b / 8) (b % 8) (nth ws (b % 8)) _
-                          (on 8 (i + 1) {ws = toField c (b / 8) (b % 8) ∷ []} refl e (also (λ w. inr (field-made e (top r q) (leads r c ws z))) none-left) slots-known)
-                          (λ c′ y u. on 8 (i + 1) {ws = toRecord c′ y ∷ []} refl e (also (λ w. inr (nested-made e (top r q) (leads r c ws z) u)) none-left) slots-known)))),
+                          (on 8 (i + 1) {ws = refer (writable r) (toField c (b / 8) (b % 8)) ∷ []} refl e (also (λ w. inr (field-made e (top r q) (leads r c ws z))) none-left) slots-known)
+                          (λ c′ y u. on 8 (i + 1) {ws = refer (writable r) (toRecord c′ y) ∷ []} refl e (also (λ w. inr (nested-made e (top r q) (leads r c ws z) u)) none-left) slots-known)))),
                       (
                         (λ e. cond-q G E (ltb (liveCount rs) maxRecords) _ _ (on 9 (i + 1) {ws = obj (length rs) b ∷ []} refl e (also (record-known (length rs) b) none-left) slots-known) stops),
                         (
@@ -241,7 +249,7 @@ module _ (t : List ℕ) (ix : Index) (T : List ℕ) (row id p i : ℕ) (ops : Li
                               (λ e. one-q G E vs _ (λ w q. number-q G E w _ (λ a u. key-q G E (findKey st b a) _ _ stops (λ r z. on 12 (i + 1) {ws = obj r b ∷ []} refl e (also (record-known r b) none-left) slots-known)))),
                               (
                                 (λ e. one-q G E vs _ (λ w q. number-q G E w _ (λ a u. key-q G E (findKey st b a) _ _ stops
-                                    (λ r z. on 13 (i + 1) {ws = toRecord r b ∷ []} refl e (also (λ k. inr (entry-made e (top (num a) (q ∙ ap (λ (x : Value). x ∷ []) u)) z)) none-left) slots-known)))),
+                                    (λ r z. on 13 (i + 1) {ws = refer true (toRecord r b) ∷ []} refl e (also (λ k. inr (entry-made e (top (num a) (q ∙ ap (λ (x : Value). x ∷ []) u)) z)) none-left) slots-known)))),
                                 (
                                   (λ e. one-q G E vs _ (λ w q. number-q G E w _ (λ a u. key-q G E (findKey st b a) _ _ (on 14 (i + 1) {ws = num 0 ∷ []} refl e (also (number-known 0) none-left) slots-known)
                                       (λ r z. on 14 (i + 1) {ws = num 1 ∷ []} refl e (also (number-known 1) none-left) slots-known)))),
@@ -255,7 +263,10 @@ module _ (t : List ℕ) (ix : Index) (T : List ℕ) (row id p i : ℕ) (ops : Li
                                           (λ e. one-q G E vs _ (λ v q. number-q G E v _ (λ x u. on 18 _ {ws = []} refl e none-left slots-known))),
                                           (
                                             (λ e. two-q G E vs _ (λ v w q. number-q G E v _ (λ x u. number-q G E w _ (λ y u′. given e (calculation b x y))))),
-                                            tt,
+                                            (
+                                              (λ e. one-q G E vs _ (λ v q. reference-q G E v _ (λ w r u. on 20 (i + 1) {ws = refer false r ∷ []} refl e (also (frozen e v w r q u) none-left) slots-known))),
+                                              tt,
+                                            ),
                                           ),
                                         ),
                                       ),

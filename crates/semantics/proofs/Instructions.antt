@@ -1,6 +1,6 @@
 -- What instruction i of a procedure takes, pushes and does to locals and marks, by its opcode.
-use Prim.Native.Nat.{ℕ, suc, _/_, _%_}
-use mathlib.Core.Path.{_≡_, refl, sym, _∙_}
+use Prim.Native.Nat.{ℕ, _/_, _%_}
+use mathlib.Core.Path.{_≡_, refl, _∙_}
 use mathlib.Core.Bool.{Bool, false, cond}
 use mathlib.Core.List.{List, [], _∷_}
 use lib.Dec.{eqb}
@@ -28,11 +28,6 @@ module _ (t : List ℕ) (ix : Index) (own : ProcedureEntry) (i : ℕ) where
       ≡ getD (effects t own (typeIn ix (cond (eqb a opBorrowFld) (rowAt (codeOf t own) i .b / 8) (rowAt (codeOf t own) i .b))) (procedureIn ix (rowAt (codeOf t own) i .b)) (rowAt (codeOf t own) i .b) top) a noEffect
   unfolding effectIn effectOf namedType
   effect-at a top e = rw e refl
-
-  -- it does not depend on what Pop finds, but for Pop
-  pub effect-same : (a top top′ : ℕ) → rowAt (codeOf t own) i .a ≡ suc a → effectIn t ix own top i ≡ effectIn t ix own top′ i
-  unfolding effects
-  effect-same a top top′ e = effect-at (suc a) top e ∙ sym (effect-at (suc a) top′ e)
 
   module _ (L : List Slot) (O : List Bool) where
     -- only MvLoc and StLoc change locals

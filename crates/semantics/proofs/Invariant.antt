@@ -31,7 +31,7 @@ use Rattle.semantics.proofs.Frames.{bottom, Stack, runs, typeOf}
 use Rattle.semantics.proofs.Entering.{entered}
 use Rattle.semantics.proofs.Running.{Rest, OutcomeOk}
 use Rattle.semantics.proofs.Cases.{and-both}
-use Rattle.semantics.proofs.Steps.{StateOk, DidAt, step-ok}
+use Rattle.semantics.proofs.Steps.{StateOk, DidAt, step-ok, writes-through}
 use Rattle.semantics.proofs.Worded.{procedure-is}
 use Rattle.semantics.proofs.Placed.{row-is}
 use Rattle.semantics.proofs.Outcomes.{OutQ, goes}
@@ -173,7 +173,7 @@ module _ (t : List ℕ) (J : Judged t (indexOf t)) where
           let found = row-is t (J .accepted) p (f .there) few i (f .inside) in
           handed t (indexOf t) (v .T) (procedureIn (indexOf t) p .code + i) id p i ops ls gs h st n (v .records) r (procedure-is t (J .accepted) p (f .there) few)
           (λ e. let q = J .instruction p i (f .there) (f .inside) .called (ap (λ (x : _). x .a) found ∙ e) in rw found at (procedure-is t (J .accepted) _ q (J .procedure _ q .low)))
-          found
+          (rw found at (writes-through t J f)) found
 
   rises : (s : State) (fs′ : List Frame) (h′ : List Cell) (st′ : List Entry) (n′ : ℕ) → HandedAt s (next (state fs′ h′ st′ n′)) → Within s → Rising n′ fs′
   rises (state [] h st n) fs′ h′ st′ n′ q w = absurd q

@@ -26,6 +26,7 @@ pub mod Printed
 pub mod Ends
 pub mod Lengths
 pub mod Consequences
+pub mod ReadOnly
 pub mod Guarded
 pub mod Shut
 pub mod ShutSteps

@@ -6,8 +6,8 @@ use mathlib.Core.Bool.{Bool, true, false, cond}
 use mathlib.Core.Option.{Option, none, some}
 use native.Mathlib.Omega.{arith}
 use lib.ListN.{getD}
-use Rattle.semantics.specs.Machine.{Value, num, obj, toLocal, toField, toRecord, Cell, Entry, Frame, State, state, Outcome, next, finished, stopped, stuck, Target, aNumber, aRecord, stale, wrong}
-use Rattle.semantics.specs.Step.{one, two, withNumber, withRecord, numberAt, recordAt, fieldsAt, withLocal, isObject, fillable, nothingUnder, fieldReference, underKey}
+use Rattle.semantics.specs.Machine.{Ref, toField, toRecord, Value, num, obj, refer, Cell, Entry, Frame, State, state, Outcome, next, finished, stopped, stuck, Target, aNumber, aRecord, stale, wrong}
+use Rattle.semantics.specs.Step.{one, two, withNumber, withRecord, withReference, numberAt, recordAt, fieldsAt, withLocal, isObject, fillable, nothingUnder, fieldReference, underKey}
 
 -- G of the frames and their count where it goes on, E of the results and the state where the call is done
 module _ (G : List Frame → ℕ → Type 0) (E : List Value → State → Type 0) where
@@ -38,16 +38,17 @@ module _ (G : List Frame → ℕ → Type 0) (E : List Value → State → Type 
   pub number-q : (v : Value) (k : ℕ → Outcome) → ((n : ℕ) → v ≡ num n → OutQ (k n)) → OutQ (withNumber v k)
   number-q (num n) k f = f n refl
   number-q (obj a y) k f = sticks
-  number-q (toLocal a l c) k f = sticks
-  number-q (toField a y j) k f = sticks
-  number-q (toRecord a y) k f = sticks
+  number-q (refer w r) k f = sticks
 
   pub record-q : (v : Value) (k : ℕ → Outcome) → ((n : ℕ) → OutQ (k n)) → OutQ (withRecord v k)
   record-q (num n) k f = sticks
   record-q (obj a y) k f = f a
-  record-q (toLocal a l c) k f = sticks
-  record-q (toField a y j) k f = sticks
-  record-q (toRecord a y) k f = sticks
+  record-q (refer w r) k f = sticks
+
+  pub reference-q : (v : Value) (k : Ref → Outcome) → ((w : Bool) (r : Ref) → v ≡ refer w r → OutQ (k r)) → OutQ (withReference v k)
+  reference-q (num n) k f = sticks
+  reference-q (obj a y) k f = sticks
+  reference-q (refer w r) k f = f w r refl
 
   pub number-at-q : (x : Target) (k : ℕ → Outcome) → ((n : ℕ) → OutQ (k n)) → OutQ (numberAt x k)
   number-at-q (aNumber n) k f = f n
@@ -72,13 +73,11 @@ module _ (G : List Frame → ℕ → Type 0) (E : List Value → State → Type 
   fillable-q (some none) x a = a
   fillable-q (some (some v)) x a = cond-q (isObject v) stuck x sticks a
 
-  pub field-q : (a y j : ℕ) (w : Option Value) (k : Value → Outcome) → OutQ (k (toField a y j)) → ((c d : ℕ) → w ≡ some (obj c d) → OutQ (k (toRecord c d))) → OutQ (fieldReference a y j w k)
+  pub field-q : (a y j : ℕ) (w : Option Value) (k : Ref → Outcome) → OutQ (k (toField a y j)) → ((c d : ℕ) → w ≡ some (obj c d) → OutQ (k (toRecord c d))) → OutQ (fieldReference a y j w k)
   field-q a y j none k f g = sticks
   field-q a y j (some (num n)) k f g = f
   field-q a y j (some (obj c d)) k f g = g c d refl
-  field-q a y j (some (toLocal c l d)) k f g = sticks
-  field-q a y j (some (toField c l d)) k f g = sticks
-  field-q a y j (some (toRecord c d)) k f g = sticks
+  field-q a y j (some (refer w r)) k f g = sticks
 
   pub key-q : (o : Option ℕ) (x : Outcome) (k : ℕ → Outcome) → OutQ x → ((r : ℕ) → o ≡ some r → OutQ (k r)) → OutQ (underKey o x k)
   key-q none x k a f = a

@@ -11,7 +11,7 @@ use Rattle.table.specs.Index.{indexOf}
 use Rattle.declarations.specs.Program.{recordOf, typeIn, fieldKinds}
 use Rattle.reach.specs.Reach.{Mem}
 use Rattle.acceptance.specs.Judged.{Judged}
-use Rattle.semantics.specs.Machine.{Value, valueKind, num, obj, toLocal, toField, toRecord, Cell, gone, here, Entry, entry, Frame}
+use Rattle.semantics.specs.Machine.{Value, valueKind, num, obj, refer, Cell, gone, here, Entry, entry, Frame}
 use Rattle.semantics.specs.Ownership.{same, inValue, inValues, inRecords, inStore, livesAt}
 use Rattle.semantics.specs.Words.{Exists, IsEntry}
 use Rattle.semantics.specs.Claim.{All, none-left, also, Plain, Owned, Nested, Reached, published-there, nested-there}
@@ -59,9 +59,7 @@ value-there r (obj id y ∷ vs) l = go (decLt 0 (same r id)) (value-there r vs)
     go : Dec (0 < same r id) → (1 ≤ inValues r vs → (y′ : ℕ) × Mem (obj r y′) vs) → (y′ : ℕ) × Mem (obj r y′) (obj id y ∷ vs)
     go (yes q) ih = (y, List·Memᴰ·head (ap (λ (x : ℕ). obj x y) (same-is r id (omega arith))))
     go (no q) ih = let z = ih (omega arith) in (z .0, List·Memᴰ·tail (z .1))
-value-there r (toLocal f x k ∷ vs) l = let z = value-there r vs (omega arith) in (z .0, List·Memᴰ·tail (z .1))
-value-there r (toField id y j ∷ vs) l = let z = value-there r vs (omega arith) in (z .0, List·Memᴰ·tail (z .1))
-value-there r (toRecord id y ∷ vs) l = let z = value-there r vs (omega arith) in (z .0, List·Memᴰ·tail (z .1))
+value-there r (refer w k ∷ vs) l = let z = value-there r vs (omega arith) in (z .0, List·Memᴰ·tail (z .1))
 
 holder-there : (r : ℕ) (h : List Cell) → 1 ≤ inRecords r h → (id y : ℕ) × (vs : List Value) × (nth h id ≡ some (here y vs)) × (1 ≤ inValues r vs)
 holder-there r [] l = absurd (omega arith)

@@ -7,14 +7,14 @@ use mathlib.Core.Option.{Option, none, some}
 use native.Mathlib.Omega.{arith}
 use lib.ListN.{length, getD, set, replicate, getElem? as nth}
 use Rattle.table.specs.declared.index.Index.{Index}
-use Rattle.declarations.specs.Program.{number, recordOf, isRecord, isReference}
+use Rattle.declarations.specs.Program.{number, recordOf, numberRef, recordRef, referenceTo, frozen, isRecord, isReference}
 use Rattle.flow.specs.Walks.{Slot, empty, full}
-use Rattle.semantics.specs.Machine.{Value, num, obj, Outcome, content}
+use Rattle.semantics.specs.Machine.{Ref, toLocal, toField, toRecord, refKind, Value, num, obj, refer, valueKind, Outcome, content}
 use Rattle.semantics.specs.Step.{startLocals, noneHeld, fillable}
 use Rattle.semantics.specs.Ownership.{inValue, inSlot, inLocals}
 use Rattle.semantics.proofs.Changes.{clash}
-use Rattle.semantics.proofs.Sorts.{record-is, record-plain, reference-is, to-reference}
-use Rattle.semantics.proofs.Typing.{Word, Fit, fnum, fobj, floc, ffld, frec, Has, hnil, hcons, Slots, snil, sempty, sfull, Fields, dnil, dnum, dobj, fit-record}
+use Rattle.semantics.proofs.Sorts.{record-is, record-plain, Writable, number-writable, record-writable, to-writable, as-reference, as-large, as-same}
+use Rattle.semantics.proofs.Typing.{Word, Fit, fnum, fobj, floc, ffld, frec, Has, hnil, hcons, Slots, snil, sempty, sfull, Fields, dnil, dnum, dobj, fit-kind, fit-record}
 
 -- no kind of a list is a reference
 abbrev pub Plain : List ℕ → Type 0
@@ -25,9 +25,9 @@ module _ {t : List ℕ} {ix : Index} {T W : List ℕ} {m : ℕ} where
   unfolding isReference
   as-field p (fnum y q) h = dnum y q h
   as-field p (fobj e q) h = dobj e q h
-  as-field p (floc {c} e d r q) h = absurd (true≢false (sym (to-reference c r) ∙ ap isReference (sym q) ∙ p))
-  as-field p (ffld e d c q) h = absurd (true≢false (ap isReference (sym q) ∙ p))
-  as-field p (frec {y} e q) h = absurd (true≢false (sym (reference-is y) ∙ ap isReference (sym q) ∙ p))
+  as-field p (floc {w} {c} e d r q) h = absurd (true≢false (sym (as-reference w (referenceTo c) (to-writable c r)) ∙ ap isReference (sym q) ∙ p))
+  as-field p (ffld {w} e d c q) h = absurd (true≢false (sym (as-reference w numberRef number-writable) ∙ ap isReference (sym q) ∙ p))
+  as-field p (frec {w} {y} e q) h = absurd (true≢false (sym (as-reference w (recordRef y) (record-writable y)) ∙ ap isReference (sym q) ∙ p))
 
   -- what Pack takes becomes fields, and fields become what Unpack pushes
   pub as-fields : {ks : List ℕ} {vs : List Value} {bs : List Bool} → Plain ks → Has t ix T W m vs ks bs → Fields T vs ks
@@ -54,16 +54,30 @@ module _ {t : List ℕ} {ix : Index} {T W : List ℕ} {m : ℕ} where
   pub as-number : {v : Value} {k : ℕ} {b : Bool} → Fit t ix T W m v k b → k ≡ number → (n : ℕ) × (v ≡ num n) × Word n
   as-number (fnum {n} y q) e = (n, refl, y)
   as-number (fobj a q) e = absurd (omega arith)
-  as-number (floc a d c q) e = absurd (omega arith)
-  as-number (ffld a d c q) e = absurd (omega arith)
-  as-number (frec a q) e = absurd (omega arith)
+  as-number (floc {w} {c} a d r q) e = absurd (omega (arith, as-large w (referenceTo c), q, e))
+  as-number (ffld {w} a d c q) e = absurd (omega (arith, as-large w numberRef, q, e))
+  as-number (frec {w} {y} a q) e = absurd (omega (arith, as-large w (recordRef y), q, e))
 
   pub as-record : {v : Value} {k : ℕ} {b : Bool} (y : ℕ) → Fit t ix T W m v k b → k ≡ recordOf y → (id : ℕ) × (v ≡ obj id y) × (nth T id ≡ some y)
   as-record y (fnum w q) e = absurd (omega arith)
   as-record y (fobj {id} {y = z} a q) e = let x : z ≡ y = omega arith in (id, rw x refl, rw x at a)
-  as-record y (floc {c} a d r q) e = absurd (true≢false (sym (to-reference c r) ∙ ap isReference (sym q ∙ e) ∙ record-plain y))
-  as-record y (ffld a d c q) e = absurd (omega arith)
-  as-record y (frec a q) e = absurd (omega arith)
+  as-record y (floc {w} {c} a d r q) e = absurd (true≢false (sym (as-reference w (referenceTo c) (to-writable c r)) ∙ ap isReference (sym q ∙ e) ∙ record-plain y))
+  as-record y (ffld {w} a d c q) e = absurd (true≢false (sym (as-reference w numberRef number-writable) ∙ ap isReference (sym q ∙ e) ∙ record-plain y))
+  as-record y (frec {w} {y = z} a q) e = absurd (true≢false (sym (as-reference w (recordRef z) (record-writable z)) ∙ ap isReference (sym q ∙ e) ∙ record-plain y))
+
+  -- a value of the kind of a writable reference is one, and frozen it fits at any place
+  pub as-writable : {v : Value} {k : ℕ} {b : Bool} → Fit t ix T W m v k b → Writable k → (r : Ref) × (v ≡ refer true r) × ((c : Bool) → Fit t ix T W m (refer false r) (frozen k) c)
+  as-writable (fnum w q) e = absurd (omega (arith, q, e .0))
+  as-writable (fobj {y} a q) e = absurd (omega (arith, q, e .0))
+  as-writable (floc {w} {f} {l} {c = i} a d r q) e = let z = as-same true w _ _ e (to-writable i r) q in let o : w ≡ true = sym (z .0) in (toLocal f l i, ap (λ (x : Bool). refer x (toLocal f l i)) o, λ c. floc a d r (ap frozen (z .1)))
+  as-writable (ffld {w} {id} {y} {j} a d g q) e = let z = as-same true w _ _ e number-writable q in let o : w ≡ true = sym (z .0) in (toField id y j, ap (λ (x : Bool). refer x (toField id y j)) o, λ c. ffld a d (λ v u. absurd (true≢false (sym v))) (ap frozen (z .1)))
+  as-writable (frec {w} {id} {y} a q) e = let z = as-same true w _ _ e (record-writable y) q in let o : w ≡ true = sym (z .0) in (toRecord id y, ap (λ (x : Bool). refer x (toRecord id y)) o, λ c. frec a (ap frozen (z .1)))
+
+  -- so is the top operand where its kind is such
+  pub top-refers : {ops : List Value} {ks : List ℕ} {O : List Bool} (k : ℕ) (under : List ℕ) → Writable k → Has t ix T W m ops ks O → ks ≡ k ∷ under → (r : Ref) × (rest : List Value) × (ops ≡ refer true r ∷ rest) × (refKind r ≡ k)
+  top-refers k under h hnil e = absurd (clash (cc))
+  top-refers k under h (hcons {k = c} {vs} f g) e =
+      let z : k ≡ c = cc in let a = as-writable f (rw z at h) in (a .0, vs, ap (λ (v : Value). v ∷ vs) (a .1), sym (ap valueKind (a .1)) ∙ fit-kind f ∙ sym z)
 
   pub slot-full : {ls : List (Option Value)} {ks : List ℕ} {L : List Slot} → Slots t ix T W m ls ks L → (i : ℕ) (b : Bool) → getD L i empty ≡ full b
       → (v : Value) × (k : ℕ) × (nth ls i ≡ some (some v)) × (nth ks i ≡ some k) × Fit t ix T W m v k b

@@ -7,7 +7,7 @@ use mathlib.Core.Option.{some}
 use native.Mathlib.Omega.{arith}
 use lib.Dec.{ltb}
 use lib.ListN.{length, set, length-append, getElem? as nth}
-use Rattle.semantics.specs.Machine.{Value, num, obj, toLocal, toField, toRecord, Cell, gone, here, liveCount}
+use Rattle.semantics.specs.Machine.{Value, num, obj, refer, Cell, gone, here, liveCount}
 use Rattle.semantics.specs.Ascii.{ascii}
 use Rattle.semantics.specs.Text.{digits, decimal, spaced, values, fieldsText}
 use Rattle.semantics.specs.Ownership.{inValues, inRecords, livesAt}
@@ -50,9 +50,7 @@ same-values : (f g : ℕ → List ℕ) (vs : List Value) → ((id : ℕ) → 1 �
 same-values f g [] e = refl
 same-values f g (num n ∷ vs) e = rw (same-values f g vs (λ id l. e id (omega arith)))
 same-values f g (obj a y ∷ vs) e = rw (e a (omega (arith, same-one a)), same-values f g vs (λ id l. e id (omega arith)))
-same-values f g (toLocal a i k ∷ vs) e = same-values f g vs (λ id l. e id (omega arith))
-same-values f g (toField a y j ∷ vs) e = same-values f g vs (λ id l. e id (omega arith))
-same-values f g (toRecord a y ∷ vs) e = same-values f g vs (λ id l. e id (omega arith))
+same-values f g (refer w x ∷ vs) e = same-values f g vs (λ id l. e id (omega arith))
 
 -- the records of one heap are records of another, with the same fields
 Sub : List Cell → List Cell → Type 0
@@ -114,9 +112,7 @@ unfolding fieldsText
 shallow h [] = omega arith
 shallow h (num n ∷ vs) = omega (arith, number-text (fieldsText 0 h) n vs, shallow h vs)
 shallow h (obj a y ∷ vs) = omega (arith, record-text (fieldsText 0 h) a y vs, decimal-few y, shallow h vs)
-shallow h (toLocal a i x ∷ vs) = omega (arith, shallow h vs)
-shallow h (toField a y j ∷ vs) = omega (arith, shallow h vs)
-shallow h (toRecord a y ∷ vs) = omega (arith, shallow h vs)
+shallow h (refer w x ∷ vs) = omega (arith, shallow h vs)
 
 -- one level deeper: a record is eaten, then its fields, then the other values
 eat-more : (k : ℕ) → Eat k → Eat (suc k)
@@ -125,13 +121,7 @@ eat-more k ih h [] ws sm o = record { left = h; sub = λ i y vs e. e; owned = λ
 eat-more k ih h (num n ∷ vs) ws sm o =
     let e = eat-more k ih h vs ws sm (λ r. omega (arith, o r)) in
     record { left = e .left; sub = e .sub; owned = e .owned; bound = omega (arith, e .bound, number-text (fieldsText (suc k) h) n vs) }
-eat-more k ih h (toLocal a i x ∷ vs) ws sm o =
-    let e = eat-more k ih h vs ws sm (λ r. omega (arith, o r)) in
-    record { left = e .left; sub = e .sub; owned = e .owned; bound = omega (arith, e .bound) }
-eat-more k ih h (toField a y j ∷ vs) ws sm o =
-    let e = eat-more k ih h vs ws sm (λ r. omega (arith, o r)) in
-    record { left = e .left; sub = e .sub; owned = e .owned; bound = omega (arith, e .bound) }
-eat-more k ih h (toRecord a y ∷ vs) ws sm o =
+eat-more k ih h (refer w x ∷ vs) ws sm o =
     let e = eat-more k ih h vs ws sm (λ r. omega (arith, o r)) in
     record { left = e .left; sub = e .sub; owned = e .owned; bound = omega (arith, e .bound) }
 eat-more k ih h (obj a y ∷ vs) ws sm o =

@@ -14,16 +14,16 @@ use Rattle.operands.specs.Flow.{onto, effectIn}
 use Rattle.flow.specs.Steps.{nexts}
 use Rattle.flow.specs.Walks.{Slot, pushes, localsAfter, marksAfter, goesOn, pushedOn as marksOn}
 use Rattle.leaks.specs.Leaks.{guardedMarks}
-use Rattle.acceptance.specs.Checked.{stepIn, WalkOf}
+use Rattle.acceptance.specs.Checked.{stepIn, WalkOf, Unmarked}
 use Rattle.acceptance.proofs.Regular.{step-takes}
 use Rattle.acceptance.specs.Judged.{localKinds, Instruction, Judged}
-use Rattle.semantics.specs.Machine.{Value, num, obj, toLocal, toField, toRecord, Cell, Entry, Frame, frame, state, Outcome, next, finished, stopped, stuck, target}
+use Rattle.semantics.specs.Machine.{toLocal, toField, toRecord, Value, num, obj, refer, Cell, Entry, Frame, frame, state, Outcome, next, finished, stopped, stuck, target}
 use Rattle.semantics.specs.Step.{pushedOn}
 use Rattle.semantics.specs.Ownership.{inValues, inLocals, inFrames, inRecords, inStore, livesAt}
 use Rattle.semantics.proofs.Indexed.{moduleIn, declarerIn}
 use Rattle.semantics.specs.Claim.{All, Owned, IsNumber}
 use Rattle.semantics.proofs.Changes.{Change, same}
-use Rattle.semantics.proofs.Typing.{Fit, Has, hnil, hcons, has-push, has-more, slots-more, _⊑_, Slots, CellOk, EntryOk, Clean}
+use Rattle.semantics.proofs.Typing.{Fit, Has, hnil, hcons, has-push, has-more, slots-more, _⊑_, Slots, CellOk, EntryOk}
 use Rattle.semantics.proofs.Frames.{FrameOk, Suspended, Stack, runs, typeOf, Inv}
 
 -- what lies between calls
@@ -64,7 +64,7 @@ pub record Running (t : List ℕ) (T W : List ℕ) (id p i : ℕ) (ops vs under 
   pub left : Has t (indexOf t) T W (moduleIn (indexOf t) p) under (instr .flow .rest) (drop (length (effectIn t (indexOf t) (procedureIn (indexOf t) p) (instr .flow .top) i .takes)) O)
   pub marks : O ≡ marksOn bs (drop (length (effectIn t (indexOf t) (procedureIn (indexOf t) p) (instr .flow .top) i .takes)) O)
   pub out : (m : ℕ) (cs : List Bool) → length cs ≡ length (effectIn t (indexOf t) (procedureIn (indexOf t) p) (instr .flow .top) i .takes)
-      → Clean (length (effectIn t (indexOf t) (procedureIn (indexOf t) p) (instr .flow .top) i .takes)) O → Has t (indexOf t) T W m vs (effectIn t (indexOf t) (procedureIn (indexOf t) p) (instr .flow .top) i .takes) cs
+      → Unmarked (effectIn t (indexOf t) (procedureIn (indexOf t) p) (instr .flow .top) i .takes) O → Has t (indexOf t) T W m vs (effectIn t (indexOf t) (procedureIn (indexOf t) p) (instr .flow .top) i .takes) cs
   pub owned : (r : ℕ) → inValues r vs + inValues r under + inLocals r ls + inFrames r fs + inRecords r h + inStore r st ≡ livesAt h r
 
 -- what one or two operands taken are
@@ -93,9 +93,9 @@ pub target-same : (id p i i′ : ℕ) (ops ops′ : List Value) (ls : List (Opti
     → target (frame id p i ops ls ∷ fs) h v ≡ target (frame id p i′ ops′ ls ∷ fs) h v
 target-same id p i i′ ops ops′ ls fs h (num x) = refl
 target-same id p i i′ ops ops′ ls fs h (obj a y) = refl
-target-same id p i i′ ops ops′ ls fs h (toLocal f l k) = refl
-target-same id p i i′ ops ops′ ls fs h (toField a y j) = refl
-target-same id p i i′ ops ops′ ls fs h (toRecord a y) = refl
+target-same id p i i′ ops ops′ ls fs h (refer w (toLocal f l k)) = refl
+target-same id p i i′ ops ops′ ls fs h (refer w (toField a y j)) = refl
+target-same id p i i′ ops ops′ ls fs h (refer w (toRecord a y)) = refl
 
 module _ {t : List ℕ} {T W : List ℕ} {id p i : ℕ} {ops vs under : List Value} {ls : List (Option Value)} {fs : List Frame} {h : List Cell} {st : List Entry} {n : ℕ}
     (R : Running t T W id p i ops vs under ls fs h st n) where

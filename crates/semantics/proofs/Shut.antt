@@ -1,31 +1,37 @@
 -- Wrong states are not safe: for each clause of the claim about a moment, the wrong machines that it shuts out. `ShutSteps` has those of steps, `ShutCalls` those of calls and lists.
-use Prim.Native.Nat.{ℕ, _+_, _<_, _≤_}
+use Prim.Native.Nat.{ℕ, _+_, _/_, _<_, _≤_}
 use mathlib.Core.Path.{_≡_, refl, ap, sym, subst, _∙_}
-use mathlib.Core.Bool.{true, false}
+use mathlib.Core.Bool.{Bool, true, false}
 use mathlib.Core.List.{List, [], _∷_, _++_, map, List·Memᴰ·tail}
 use mathlib.Core.Logic.{⊎-elim, _≢_}
 use mathlib.Core.Option.{Option, some}
 use native.Mathlib.Omega.{arith}
+use borrow.Author.Tests.{ne-eqb}
 use lib.ListN.{length, getElem? as nth, length-map}
 use Rattle.table.specs.declared.index.Index.{Index}
-use Rattle.table.specs.Format.{instructionKind, opCall, opRet}
+use Rattle.table.specs.Format.{instructionKind, opReadRef, opWriteRef, opBorrowFld, opCall, opRet, opFreeze}
 use Rattle.table.specs.Rows.{rowAt, kindAt}
 use Rattle.table.specs.Index.{ownerAt}
-use Rattle.declarations.specs.Program.{number, numberRef, isReference, localKind, localCount}
+use Rattle.declarations.specs.Program.{number, numberRef, recordOf, recordRef, recordRead, isReference, procedureIn, localKind, localCount}
 use Rattle.arithmetic.specs.Arithmetic.{pastNumbers}
-use Rattle.semantics.specs.Limits.{budgetSpent}
+use Rattle.semantics.specs.Limits.{budgetSpent, staleReference}
 use Rattle.reach.specs.Reach.{Mem}
-use Rattle.semantics.specs.Machine.{Value, valueKind, num, obj, toLocal, toField, toRecord, Cell, gone, here, Entry, Frame, frame, State, state, Outcome, finished, stopped, stuck}
+use Rattle.effects.specs.Kinds.{good}
+use Rattle.effects.specs.Effects.{Effect, effects, reads}
+use Rattle.operands.specs.Operands.{kindsBefore}
+use Rattle.semantics.specs.Machine.{toLocal, toField, toRecord, Value, valueKind, num, obj, refer, Cell, gone, here, Entry, Frame, frame, State, state, Outcome, finished, stopped, stuck}
 use Rattle.semantics.specs.Step.{pushedOn, instruction, effectAt, step}
 use Rattle.semantics.specs.History.{moment}
 use Rattle.semantics.specs.Ownership.{inFrames, inRecords, inStore}
 use Rattle.semantics.specs.Words.{procedureCount, moduleOf, declarer, inGuest, guest, guardedField, kindsIn, bodyOf, instructionRow, Holds, local, Exists, NumberIn, IsEntry}
 use Rattle.semantics.specs.Claim.{IsReference, Plain, Rising, Typed, Takes, Ready, SafeOutcome, goes, returnsLast, stops, Safe, safe}
 use Rattle.semantics.proofs.Changes.{clash}
+use Rattle.semantics.proofs.Instructions.{effect-at}
 use Rattle.semantics.proofs.Owning.{held-once, in-cells, entry-counted, lives-once}
 use Rattle.semantics.proofs.Labels.{held-counted}
 use Rattle.semantics.proofs.Handing.{all-out, taken-shape}
 use Rattle.semantics.proofs.Consequences.{safe-state, taken-kinds, length-pushed, pushed-same, identity, procedure, rowOf, label, placed, stands, rises, risen, number-there}
+use Rattle.semantics.proofs.ReadOnly.{freeze-goes-on, read-only-kept}
 
 -- A moment: frame id of procedure p is at instruction i over the frames fs, and `row` is told
 module _ (t : List ℕ) (ix : Index) (row id p i : ℕ) (ops : List Value) (ls : List (Option Value)) (fs : List Frame) (rs : List Cell) (st : List Entry) (n : ℕ) where
@@ -54,24 +60,49 @@ module _ (t : List ℕ) (ix : Index) (row id p i : ℕ) (ops : List Value) (ls :
       let same = pushed-same (z .0) vs (z .1) rest (sym (length-map (z .0) valueKind) ∙ ap length k ∙ sym l) (sym d ∙ e) in
       f (ap (map valueKind) (sym (same .0)) ∙ k)
 
-  -- a number where a reference to a number is taken, as by ReadRef, also where the budget is spent there
+  -- a number where a reference to a number is taken, as by StLoc or Call, also where the budget is spent there
   pub not-a-number : {x : ℕ} {under : List Value} → effectAt t ix p i ops .takes ≡ numberRef ∷ [] → ops ≡ num x ∷ under → SafeWith (stopped budgetSpent) → ⊥
   not-a-number {x} {under} e d = not-another-kind (num x ∷ []) under d (ap length (sym e)) (λ q. clash (let z : number ∷ [] ≡ numberRef ∷ [] = q ∙ e in let w : number ≡ numberRef = cc in omega (arith, w)))
 
-  -- its local is unfit; it is stuck
+  -- its local, or the top operand, is unfit: a number at ReadRef for instance; it is stuck
   pub not-unfit : {o : Outcome} → effectAt t ix p i ops .fit ≡ false → SafeWith o → ⊥
   not-unfit e s = clash (cc (e, ready-of s .fit))
+
+  pub not-read-number : {o : Outcome} {x : ℕ} {under : List Value} → instruction t ix p i .a ≡ opReadRef → ops ≡ num x ∷ under → SafeWith o → ⊥
+  unfolding instruction effectAt effects reads
+  not-read-number e d = not-unfit (ap (λ (l : List Value). effectAt t ix p i l .fit) d ∙ ap (λ (y : Effect). y .fit) (effect-at t ix (procedureIn ix p) i opReadRef number e))
+
+  pub not-borrowed-record : {o : Outcome} {c y : ℕ} {under : List Value} → instruction t ix p i .a ≡ opBorrowFld → ops ≡ obj c y ∷ under → SafeWith o → ⊥
+  unfolding instruction effectAt effects reads
+  not-borrowed-record {y} e d =
+      not-unfit (ap (λ (l : List Value). effectAt t ix p i l .fit) d ∙ ap (λ (x : Effect). x .fit) (effect-at t ix (procedureIn ix p) i opBorrowFld (recordOf y) e)
+      ∙ rw (ne-eqb (recordOf y) (recordRef (instruction t ix p i .b / 8)) (λ z. omega (arith, z)), ne-eqb (recordOf y) (recordRead (instruction t ix p i .b / 8)) (λ z. omega (arith, z))))
+
+  -- the operands have other kinds than the judge found: one is read-only to the judge and writable in the frame
+  pub not-other-kinds : {o : Outcome} → kindsBefore t ix (procedureIn ix p) i ≢ good (map valueKind ops) → SafeWith o → ⊥
+  not-other-kinds e s = e (ready-of s .kinds)
 
   pub not-stuck : {o : Outcome} → step t ix (state (frame id p i ops ls ∷ fs) rs st n) ≡ stuck → SafeWith o → ⊥
   not-stuck e s = ready-of s .moves e
 
   comes : {o : Outcome} → SafeOutcome t ix row id p i ops ls fs rs st n o → o ≡ stuck → ⊥
-  comes (goes a b c) e = clash (cc)
+  comes (goes a b c d) e = clash (cc)
   comes (returnsLast a b c) e = clash (cc)
-  comes stops e = clash (cc)
+  comes (stops f) e = clash (cc)
 
   pub not-told-stuck : SafeWith stuck → ⊥
   not-told-stuck (safe s d) = comes d refl
+
+  -- WriteRef comes up with a read-only reference: to a field; to a local
+  pub not-written-through : {o : Outcome} {c y j : ℕ} {rest : List Value} → rowAt t row .a ≡ opWriteRef → ops ≡ refer false (toField c y j) ∷ rest → SafeWith o → ⊥
+  not-written-through {c} {y} {j} {rest} e d s = read-only-kept s e (toField c y j) rest d
+
+  pub not-written-to-local : {o : Outcome} {f l k : ℕ} {rest : List Value} → rowAt t row .a ≡ opWriteRef → ops ≡ refer false (toLocal f l k) ∷ rest → SafeWith o → ⊥
+  not-written-to-local {f} {l} {k} {rest} e d s = read-only-kept s e (toLocal f l k) rest d
+
+  -- Freeze stops at a stale reference
+  pub not-stale-freeze : rowAt t row .a ≡ opFreeze → SafeWith (stopped staleReference) → ⊥
+  not-stale-freeze e s = omega (arith, freeze-goes-on s e)
 
   -- the row told is no instruction, of another place, behind the procedure's last row, in another module, or of no procedure
   pub not-other-row : {o : Outcome} → kindAt t row ≢ instructionKind → SafeWith o → ⊥
@@ -98,17 +129,17 @@ module _ (t : List ℕ) (ix : Index) (row id p i : ℕ) (ops : List Value) (ls :
 
   -- CLAUSE 2, `Kept`, of any frame, running or suspended
   module _ {o : Outcome} {id′ p′ i′ : ℕ} {ops′ : List Value} {ls′ : List (Option Value)} (among : Mem (frame id′ p′ i′ ops′ ls′) (frame id p i ops ls ∷ fs)) where
-    -- a frame of a guest holds a reference to a guarded field
-    pub not-in-guest : {c y j : ℕ} → guest t p′ ≡ true → guardedField t y j ≡ true → Holds (frame id′ p′ i′ ops′ ls′) (toField c y j) → SafeWith o → ⊥
-    not-in-guest {c} {y} {j} g d h s = let z = all-out (safe-state s .kept) _ among (toField c y j) h (c, y, j, refl, d) in clash (cc (g, z .0))
+    -- a frame of a guest holds a writable reference to a guarded field
+    pub not-in-guest : {c y j : ℕ} → guest t p′ ≡ true → guardedField t y j ≡ true → Holds (frame id′ p′ i′ ops′ ls′) (refer true (toField c y j)) → SafeWith o → ⊥
+    not-in-guest {c} {y} {j} g d h s = let z = all-out (safe-state s .kept) _ among (refer true (toField c y j)) h (c, y, j, refl, d) in clash (cc (g, z .0))
 
     -- a frame of another trusted module than the declaring one holds one
-    pub not-in-another : {c y j : ℕ} → declarer t y ≢ moduleOf t p′ → guardedField t y j ≡ true → Holds (frame id′ p′ i′ ops′ ls′) (toField c y j) → SafeWith o → ⊥
-    not-in-another {c} {y} {j} f d h s = f (all-out (safe-state s .kept) _ among (toField c y j) h (c, y, j, refl, d) .1 c y j refl)
+    pub not-in-another : {c y j : ℕ} → declarer t y ≢ moduleOf t p′ → guardedField t y j ≡ true → Holds (frame id′ p′ i′ ops′ ls′) (refer true (toField c y j)) → SafeWith o → ⊥
+    not-in-another {c} {y} {j} f d h s = f (all-out (safe-state s .kept) _ among (refer true (toField c y j)) h (c, y, j, refl, d) .1 c y j refl)
 
   -- a suspended frame of a guest keeps one in a local, after the record was unpacked
   pub not-stale-in-guest : {o : Outcome} {id′ p′ i′ c y j : ℕ} {ops′ : List Value} {ls′ : List (Option Value)} (l : ℕ) → Mem (frame id′ p′ i′ ops′ ls′) fs → guest t p′ ≡ true → guardedField t y j ≡ true
-      → nth ls′ l ≡ some (some (toField c y j)) → nth rs c ≡ some (gone y) → SafeWith o → ⊥
+      → nth ls′ l ≡ some (some (refer true (toField c y j))) → nth rs c ≡ some (gone y) → SafeWith o → ⊥
   not-stale-in-guest l m g d e stale s = not-in-guest (List·Memᴰ·tail m) g d (local l e) s
 
   -- LABELS, `Typed`, of any frame
@@ -124,30 +155,30 @@ module _ (t : List ℕ) (ix : Index) (row id p i : ℕ) (ops : List Value) (ls :
     not-dead {c} {y} h e s = let z = label (typed-of s) (obj c y) h in clash (cc (e, z .1))
 
     -- a reference to a field that is no number of the type, or names a record by another type
-    pub not-no-field : {c y j : ℕ} → Holds (frame id′ p′ i′ ops′ ls′) (toField c y j) → nth (kindsIn t y) j ≢ some number → SafeWith o → ⊥
-    not-no-field {c} {y} {j} h f s = f (label (typed-of s) (toField c y j) h .1)
+    pub not-no-field : {w : Bool} {c y j : ℕ} → Holds (frame id′ p′ i′ ops′ ls′) (refer w (toField c y j)) → nth (kindsIn t y) j ≢ some number → SafeWith o → ⊥
+    not-no-field {w} {c} {y} {j} h f s = f (label (typed-of s) (refer w (toField c y j)) h .1)
 
-    pub not-other-type : {c y j y′ : ℕ} {vs : List Value} → Holds (frame id′ p′ i′ ops′ ls′) (toField c y j) → nth rs c ≡ some (here y′ vs) → y′ ≢ y → SafeWith o → ⊥
-    not-other-type {c} {y} {j} h e f s = ⊎-elim (λ q. clash (cc (e, q))) (λ q. f (cc (e, q .1))) (label (typed-of s) (toField c y j) h .0)
+    pub not-other-type : {w : Bool} {c y j y′ : ℕ} {vs : List Value} → Holds (frame id′ p′ i′ ops′ ls′) (refer w (toField c y j)) → nth rs c ≡ some (here y′ vs) → y′ ≢ y → SafeWith o → ⊥
+    not-other-type {w} {c} {y} {j} h e f s = ⊎-elim (λ q. clash (cc (e, q))) (λ q. f (cc (e, q .1))) (label (typed-of s) (refer w (toField c y j)) h .0)
 
     -- a number of more than 64 bits
     pub not-too-large : {x : ℕ} → Holds (frame id′ p′ i′ ops′ ls′) (num x) → pastNumbers ≤ x → SafeWith o → ⊥
     not-too-large {x} h l s = omega (arith, label (typed-of s) (num x) h, l)
 
     -- a reference to a record under another type; to a local that holds a reference; to a local of a frame that is yet to come
-    pub not-record-of-other : {c y y′ : ℕ} {vs : List Value} → Holds (frame id′ p′ i′ ops′ ls′) (toRecord c y) → nth rs c ≡ some (here y′ vs) → y′ ≢ y → SafeWith o → ⊥
-    not-record-of-other {c} {y} h e f s = ⊎-elim (λ q. clash (cc (e, q))) (λ q. f (cc (e, q .1))) (label (typed-of s) (toRecord c y) h)
+    pub not-record-of-other : {w : Bool} {c y y′ : ℕ} {vs : List Value} → Holds (frame id′ p′ i′ ops′ ls′) (refer w (toRecord c y)) → nth rs c ≡ some (here y′ vs) → y′ ≢ y → SafeWith o → ⊥
+    not-record-of-other {w} {c} {y} h e f s = ⊎-elim (λ q. clash (cc (e, q))) (λ q. f (cc (e, q .1))) (label (typed-of s) (refer w (toRecord c y)) h)
 
-    pub not-to-reference : {f l k : ℕ} → Holds (frame id′ p′ i′ ops′ ls′) (toLocal f l k) → isReference k ≡ true → SafeWith o → ⊥
-    not-to-reference {f} {l} {k} h e s = let z = label (typed-of s) (toLocal f l k) h .1 in clash (cc (e, z))
+    pub not-to-reference : {w : Bool} {f l k : ℕ} → Holds (frame id′ p′ i′ ops′ ls′) (refer w (toLocal f l k)) → isReference k ≡ true → SafeWith o → ⊥
+    not-to-reference {w} {f} {l} {k} h e s = let z = label (typed-of s) (refer w (toLocal f l k)) h .1 in clash (cc (e, z))
 
-    pub not-to-come : {f l k : ℕ} → Holds (frame id′ p′ i′ ops′ ls′) (toLocal f l k) → n ≤ f → SafeWith o → ⊥
-    not-to-come {f} {l} {k} h e s = omega (arith, label (typed-of s) (toLocal f l k) h .0, e)
+    pub not-to-come : {w : Bool} {f l k : ℕ} → Holds (frame id′ p′ i′ ops′ ls′) (refer w (toLocal f l k)) → n ≤ f → SafeWith o → ⊥
+    not-to-come {w} {f} {l} {k} h e s = omega (arith, label (typed-of s) (refer w (toLocal f l k)) h .0, e)
 
     -- a reference to a local has another kind than its procedure declares; so has the value in a local
-    pub not-other-local : {f l k q i″ : ℕ} {ops″ : List Value} {ls″ : List (Option Value)} → Holds (frame id′ p′ i′ ops′ ls′) (toLocal f l k) → Mem (frame f q i″ ops″ ls″) (frame id p i ops ls ∷ fs) → localKind t (bodyOf t q) l ≢ k
+    pub not-other-local : {w : Bool} {f l k q i″ : ℕ} {ops″ : List Value} {ls″ : List (Option Value)} → Holds (frame id′ p′ i′ ops′ ls′) (refer w (toLocal f l k)) → Mem (frame f q i″ ops″ ls″) (frame id p i ops ls ∷ fs) → localKind t (bodyOf t q) l ≢ k
         → SafeWith o → ⊥
-    not-other-local {f} {l} {k} {q} {i″} {ops″} {ls″} h m g s = g (label (typed-of s) (toLocal f l k) h .2 q i″ ops″ ls″ m .1)
+    not-other-local {w} {f} {l} {k} {q} {i″} {ops″} {ls″} h m g s = g (label (typed-of s) (refer w (toLocal f l k)) h .2 q i″ ops″ ls″ m .1)
 
     pub not-misplaced : {v : Value} (l : ℕ) → nth ls′ l ≡ some (some v) → valueKind v ≢ localKind t (bodyOf t p′) l → SafeWith o → ⊥
     not-misplaced {v} l e f s = f (placed (typed-of s) l v e .1)
@@ -178,9 +209,7 @@ module _ (t : List ℕ) (ix : Index) (row id p i : ℕ) (ops : List Value) (ls :
       no-reference : (v : Value) → IsReference v → Plain v → ⊥
       no-reference (num x) r k = r
       no-reference (obj a b) r k = r
-      no-reference (toLocal f l x) r k = k
-      no-reference (toField a b j) r k = k
-      no-reference (toRecord a b) r k = k
+      no-reference (refer w x) r k = k
 
   -- a record is in two places: a frame holds it, and it is an entry or stands in a field
   pub not-in-two-places : {o : Outcome} {c y y′ a : ℕ} {f : Frame} → Mem f (frame id p i ops ls ∷ fs) → Holds f (obj c y) → IsEntry st y′ a c → SafeWith o → ⊥

@@ -1,24 +1,24 @@
 -- Wrong steps are not safe: for each clause of the claim about what a step does, the wrong machines that it shuts out.
 use Prim.Native.Nat.{ℕ, _+_, _%_, _<_, _≤_}
-use mathlib.Core.Path.{_≡_, refl, sym, _∙_}
-use mathlib.Core.Bool.{true}
+use mathlib.Core.Path.{_≡_, refl, ap, sym, _∙_}
+use mathlib.Core.Bool.{Bool, true, false}
 use mathlib.Core.List.{List, [], _∷_, List·Memᴰ·head}
 use mathlib.Core.Logic.{_⊎_, ⊎-elim, _≢_}
 use mathlib.Core.Option.{Option, some}
 use native.Mathlib.Omega.{arith}
 use lib.ListN.{length, set, getElem? as nth}
 use Rattle.table.specs.declared.index.Index.{Index}
-use Rattle.table.specs.Format.{opWriteRef, opBorrowLoc, opBorrowFld, opBorrowGlobal, opCall, opRet, opPack, opUnpack, opMoveTo, opMoveFrom}
+use Rattle.table.specs.Format.{opWriteRef, opBorrowLoc, opBorrowFld, opBorrowGlobal, opCall, opRet, opPack, opUnpack, opMoveTo, opMoveFrom, opFreeze}
 use Rattle.table.specs.Rows.{rowAt}
 use Rattle.reach.specs.Reach.{Mem}
 use Rattle.semantics.specs.Step.{pushedOn}
-use Rattle.semantics.specs.Machine.{Value, num, obj, toLocal, toField, toRecord, localOf, Cell, gone, here, Entry, Frame, frame, state, next, aRecord, target}
+use Rattle.semantics.specs.Machine.{Ref, toLocal, toField, toRecord, Value, num, obj, refer, writable, localOf, Cell, gone, here, Entry, Frame, frame, state, next, aRecord, target}
 use Rattle.semantics.specs.History.{moment}
 use Rattle.semantics.specs.Words.{typeCount, moduleOf, declarer, guest, guardedField, Holds, operand, Exists, NumberIn, IsEntry, InStore}
-use Rattle.semantics.specs.Claim.{IsReference, Writes, Proper, Makes, Takes, Handed, Origin, goes, Safe, safe}
+use Rattle.semantics.specs.Claim.{IsReference, Writes, Proper, Makes, Takes, Handed, Origin, Freezes, goes, Safe, safe}
 use Rattle.semantics.proofs.Changes.{clash}
 use Rattle.semantics.proofs.Sounds.{nth-set, head-of, nth-inside}
-use Rattle.semantics.proofs.Consequences.{safe-state, pushed-same, identity, procedure, under-same, call-under, ret-under, write-under, called-as, runs-on, to-local, to-field, borrows, called-with, left-with, returned-to, to-nested, through-record, through-local, to-entry}
+use Rattle.semantics.proofs.Consequences.{safe-state, pushed-same, identity, procedure, under-same, call-under, ret-under, write-under, called-as, runs-on, to-local, to-field, borrows, called-with, left-with, returned-to, to-nested, through-record, through-local, to-entry, to-frozen, Lends, lends}
 use Rattle.semantics.proofs.Shut.{not-in-guest}
 
 -- A step is done: frame id of procedure p is at instruction i over the frames fs, `row` is told, and it leads to the state after
@@ -27,13 +27,26 @@ module _ (t : List ℕ) (ix : Index) (row id p i : ℕ) (ops : List Value) (ls :
   Done = Safe t ix (moment (state (frame id p i ops ls ∷ fs) rs st n) row (next (state fs′ rs′ st′ n′)))
 
   proper-of : Done → Proper t row ops rs st rs′ st′
-  proper-of (safe s (goes a b c)) = a
+  proper-of (safe s (goes a b c d)) = a
 
   handed-of : Done → Handed t ix row id p i ops ls fs n fs′ n′
-  handed-of (safe s (goes a b c)) = b
+  handed-of (safe s (goes a b c d)) = b
 
   origin-of : Done → Origin t ix row id p i ops ls fs rs st fs′
-  origin-of (safe s (goes a b c)) = c
+  origin-of (safe s (goes a b c d)) = c
+
+  freezes-of : Done → Freezes t ix row id p i ops ls fs rs st fs′ rs′ st′
+  freezes-of (safe s (goes a b c d)) = d
+
+  -- CLAUSE 5, `Freezes`: Freeze leaves the reference writable, or does something else besides; it takes what is read-only already
+  pub not-left-writable : {gs : List Frame} {j : ℕ} {r : Ref} {rest : List Value} {ls′ : List (Option Value)} → rowAt t row .a ≡ opFreeze → fs′ ≡ frame id p j (refer true r ∷ rest) ls′ ∷ gs → Done → ⊥
+  not-left-writable g e s = let z = freezes-of s g .3 in clash (cc (e, z))
+
+  pub not-frozen-besides : {r : Ref} {rest : List Value} → rowAt t row .a ≡ opFreeze → ops ≡ refer true r ∷ rest → fs′ ≢ frame id p (i + 1) (refer false r ∷ rest) ls ∷ fs → Done → ⊥
+  not-frozen-besides g e f s = let z = freezes-of s g in let a = z .2 in let b = z .3 in f (cc (e, a, b))
+
+  pub not-frozen-again : {r : Ref} {rest : List Value} → rowAt t row .a ≡ opFreeze → ops ≡ refer false r ∷ rest → Done → ⊥
+  not-frozen-again g e s = let z = freezes-of s g .2 in clash (cc (e, z))
 
   -- Record c of type y
   module _ (c y : ℕ) where
@@ -45,8 +58,8 @@ module _ (t : List ℕ) (ix : Index) (row id p i : ℕ) (ops : List Value) (ls :
     pub not-changed-else : {j : ℕ} → guardedField t y j ≡ true → NumberIn rs c y j 500 → NumberIn rs′ c y j 1 → rowAt t row .a ≢ opWriteRef → Done → ⊥
     not-changed-else g a b f s = f (writer g a b (λ e. omega arith) s .1 .0)
 
-    -- it changes by a WriteRef through a reference to another field, or to that field of another record
-    pub not-changed-through : {j : ℕ} {r : Value} {under : List Value} → guardedField t y j ≡ true → NumberIn rs c y j 500 → NumberIn rs′ c y j 1 → ops ≡ r ∷ under → r ≢ toField c y j → Done → ⊥
+    -- it changes by a WriteRef through a reference to another field, or to that field of another record, or through a read-only one
+    pub not-changed-through : {j : ℕ} {r : Value} {under : List Value} → guardedField t y j ≡ true → NumberIn rs c y j 500 → NumberIn rs′ c y j 1 → ops ≡ r ∷ under → r ≢ refer true (toField c y j) → Done → ⊥
     not-changed-through g a b e f s = let w = writer g a b (λ q. omega arith) s .1 .1 in f (cc (e, w .1))
 
     -- it changes in another module than the one that declares the type; in a guest
@@ -57,11 +70,11 @@ module _ (t : List ℕ) (ix : Index) (row id p i : ℕ) (ops : List Value) (ls :
     not-changed-by-guest g a b d s = not-in-guest t ix row id p i ops ls fs rs st n (List·Memᴰ·head refl) d g (operand (head-of (writer g a b (λ e. omega arith) s .1 .1 .1))) s
 
     -- it stays although another number was written to it
-    pub not-unwritten : {j : ℕ} {under : List Value} → guardedField t y j ≡ true → rowAt t row .a ≡ opWriteRef → ops ≡ toField c y j ∷ num 1 ∷ under → NumberIn rs c y j 500 → NumberIn rs′ c y j 500 → Done → ⊥
+    pub not-unwritten : {j : ℕ} {under : List Value} → guardedField t y j ≡ true → rowAt t row .a ≡ opWriteRef → ops ≡ refer true (toField c y j) ∷ num 1 ∷ under → NumberIn rs c y j 500 → NumberIn rs′ c y j 500 → Done → ⊥
     not-unwritten {j} {under} g e d a b s = proper-of s .changed c y j 500 500 g a b .1 (1, (e, (under, d)), λ q. omega arith) refl
 
     -- another number is there than the one written
-    pub not-miswritten : {j : ℕ} {under : List Value} → rowAt t row .a ≡ opWriteRef → ops ≡ toField c y j ∷ num 1 ∷ under → NumberIn rs c y j 500 → NumberIn rs′ c y j 2 → Done → ⊥
+    pub not-miswritten : {j : ℕ} {under : List Value} → rowAt t row .a ≡ opWriteRef → ops ≡ refer true (toField c y j) ∷ num 1 ∷ under → NumberIn rs c y j 500 → NumberIn rs′ c y j 2 → Done → ⊥
     not-miswritten {j} {under} e d a b s = omega (arith, proper-of s .written c y j 500 2 1 a b (e, (under, d)))
 
     -- `fields`: a number, guarded or not, or a nested record changes by another instruction than WriteRef
@@ -75,7 +88,7 @@ module _ (t : List ℕ) (ix : Index) (row id p i : ℕ) (ops : List Value) (ls :
         (λ q. let w : nth (set vs (q .0) (num (q .1))) j ≡ some (obj c₂ y₂) = cc (e, q .2) in ⊎-elim (λ u. clash (cc (u .1))) (λ u. f (cc (d, u))) (nth-set vs (q .0) j (num (q .1)) (obj c₂ y₂) w))
         (proper-of s .fields c y vs vs′ a b)
 
-    -- CLAUSE 4, `made_tables`, `fresh`
+    -- CLAUSE 4, `made`, `fresh`
     -- a record is made by another instruction than Pack of its type
     pub not-made-else : Exists rs′ c y → ¬ (Exists rs c y) → rowAt t row .a ≢ opPack → Done → ⊥
     not-made-else a b f s = f (proper-of s .made c y a b .opcode)
@@ -203,32 +216,51 @@ module _ (t : List ℕ) (ix : Index) (row id p i : ℕ) (ops : List Value) (ls :
     came {v} r h s = let o : Origin t ix row id p i ops ls fs rs st (frame id p j ops′ ls′ ∷ gs) = rw top at (origin-of s) in o refl v r h
 
     -- the running frame comes to a reference to a field of another record than the one that BorrowFld's operand leads to
-    pub not-another : {c y k d : ℕ} {r : Value} {rest fields : List Value} → Holds (frame id p j ops′ ls′) (toField c y k) → ¬ (Holds (frame id p i ops ls) (toField c y k)) → ops ≡ r ∷ rest
+    pub not-another : {w : Bool} {c y k d : ℕ} {r : Value} {rest fields : List Value} → Holds (frame id p j ops′ ls′) (refer w (toField c y k)) → ¬ (Holds (frame id p i ops ls) (refer w (toField c y k))) → ops ≡ r ∷ rest
         → target (frame id p i ops ls ∷ fs) rs r ≡ aRecord d fields → c ≢ d → Done → ⊥
     not-another h m e z f s = ⊎-elim (λ q. m q) (λ q. f (to-field refl e z q)) (came tt h s)
 
     -- the same where the operand is a reference to a record; to a local that holds a record
-    pub not-another-record : {c y k c′ y′ : ℕ} {rest : List Value} → Holds (frame id p j ops′ ls′) (toField c y k) → ¬ (Holds (frame id p i ops ls) (toField c y k)) → ops ≡ toRecord c′ y′ ∷ rest → c ≢ c′ → Done → ⊥
+    pub not-another-record : {w u : Bool} {c y k c′ y′ : ℕ} {rest : List Value} → Holds (frame id p j ops′ ls′) (refer w (toField c y k)) → ¬ (Holds (frame id p i ops ls) (refer w (toField c y k))) → ops ≡ refer u (toRecord c′ y′) ∷ rest → c ≢ c′ → Done → ⊥
     not-another-record h m e f s = ⊎-elim (λ q. m q) (λ q. f (through-record refl e q)) (came tt h s)
 
-    pub not-another-local : {c y k g l z c′ y′ : ℕ} {rest : List Value} → Holds (frame id p j ops′ ls′) (toField c y k) → ¬ (Holds (frame id p i ops ls) (toField c y k)) → ops ≡ toLocal g l z ∷ rest
+    pub not-another-local : {w u : Bool} {c y k g l z c′ y′ : ℕ} {rest : List Value} → Holds (frame id p j ops′ ls′) (refer w (toField c y k)) → ¬ (Holds (frame id p i ops ls) (refer w (toField c y k))) → ops ≡ refer u (toLocal g l z) ∷ rest
         → localOf (frame id p i ops ls ∷ fs) g l ≡ some (obj c′ y′) → c ≢ c′ → Done → ⊥
     not-another-local h m e d f s = ⊎-elim (λ q. m q) (λ q. f (through-local refl e d q)) (came tt h s)
 
     -- BorrowFld gives a reference to another record than the one that stands in the field
-    pub not-another-nested : {c y c′ y′ d : ℕ} {r : Value} {rest fields : List Value} → Holds (frame id p j ops′ ls′) (toRecord c y) → ¬ (Holds (frame id p i ops ls) (toRecord c y)) → rowAt t row .a ≡ opBorrowFld → ops ≡ r ∷ rest
+    pub not-another-nested : {w : Bool} {c y c′ y′ d : ℕ} {r : Value} {rest fields : List Value} → Holds (frame id p j ops′ ls′) (refer w (toRecord c y)) → ¬ (Holds (frame id p i ops ls) (refer w (toRecord c y))) → rowAt t row .a ≡ opBorrowFld → ops ≡ r ∷ rest
         → target (frame id p i ops ls ∷ fs) rs r ≡ aRecord d fields → nth fields (rowAt t row .b % 8) ≡ some (obj c′ y′) → c ≢ c′ → Done → ⊥
     not-another-nested h m g e z k f s = ⊎-elim (λ q. m q) (λ q. f (to-nested refl g e z k q)) (came tt h s)
 
     -- BorrowLoc gives a reference to a local of another frame
-    pub not-another-frame : {f l k : ℕ} → Holds (frame id p j ops′ ls′) (toLocal f l k) → ¬ (Holds (frame id p i ops ls) (toLocal f l k)) → f ≢ id → Done → ⊥
+    pub not-another-frame : {f l k : ℕ} → Holds (frame id p j ops′ ls′) (refer true (toLocal f l k)) → ¬ (Holds (frame id p i ops ls) (refer true (toLocal f l k))) → f ≢ id → Done → ⊥
     not-another-frame h m f s = ⊎-elim (λ q. m q) (λ q. f (to-local refl q)) (came tt h s)
 
     -- BorrowGlobal gives a reference to another record than the one under the key
-    pub not-another-entry : {c y a : ℕ} {rest : List Value} → Holds (frame id p j ops′ ls′) (toRecord c y) → ¬ (Holds (frame id p i ops ls) (toRecord c y)) → rowAt t row .a ≡ opBorrowGlobal → ops ≡ num a ∷ rest → ¬ (IsEntry st y a c)
+    pub not-another-entry : {w : Bool} {c y a : ℕ} {rest : List Value} → Holds (frame id p j ops′ ls′) (refer w (toRecord c y)) → ¬ (Holds (frame id p i ops ls) (refer w (toRecord c y))) → rowAt t row .a ≡ opBorrowGlobal → ops ≡ num a ∷ rest → ¬ (IsEntry st y a c)
         → Done → ⊥
     not-another-entry h m g e f s = ⊎-elim (λ q. m q) (λ q. f (to-entry refl g e q)) (came tt h s)
 
-    -- it comes to a reference that a suspended frame holds, or no frame, by a step that borrows nothing
-    pub not-from-under : {v : Value} → IsReference v → Holds (frame id p j ops′ ls′) v → ¬ (Holds (frame id p i ops ls) v) → rowAt t row .a ≢ opBorrowLoc → rowAt t row .a ≢ opBorrowFld → rowAt t row .a ≢ opBorrowGlobal → Done → ⊥
-    not-from-under r h m a b c s = ⊎-elim (λ q. m q) (λ q. ⊎-elim (λ u. a u) (λ u. ⊎-elim (λ w. b w) (λ w. c w) u) (borrows q)) (came r h s)
+    -- it comes to a reference that a suspended frame holds, or no frame, by a step that neither borrows nor freezes
+    pub not-from-under : {v : Value} → IsReference v → Holds (frame id p j ops′ ls′) v → ¬ (Holds (frame id p i ops ls) v) → rowAt t row .a ≢ opBorrowLoc → rowAt t row .a ≢ opBorrowFld → rowAt t row .a ≢ opBorrowGlobal → rowAt t row .a ≢ opFreeze
+        → Done → ⊥
+    not-from-under r h m a b c d s = ⊎-elim (λ q. m q) (λ q. ⊎-elim (λ u. a u) (λ u. ⊎-elim (λ w. b w) (λ w. ⊎-elim (λ x. c x) (λ x. d x) w) u) (borrows q)) (came r h s)
+
+    -- by Freeze it comes to another reference than the read-only one to what the operand leads to
+    pub not-frozen-else : {w : Bool} {q : Ref} {v : Value} {rest : List Value} → IsReference v → Holds (frame id p j ops′ ls′) v → ¬ (Holds (frame id p i ops ls) v) → rowAt t row .a ≡ opFreeze → ops ≡ refer w q ∷ rest → v ≢ refer false q
+        → Done → ⊥
+    not-frozen-else r h m g e f s = ⊎-elim (λ q. m q) (λ q. f (to-frozen g e q)) (came r h s)
+
+    -- where it comes to a writable reference, the step lends one
+    lent : {r : Ref} → Holds (frame id p j ops′ ls′) (refer true r) → ¬ (Holds (frame id p i ops ls) (refer true r)) → Done → Lends t row ops
+    lent h m s = ⊎-elim (λ q. absurd (m q)) (λ q. lends refl q) (came tt h s)
+
+    -- by Freeze it comes to a writable one
+    pub not-thawed : {r : Ref} → Holds (frame id p j ops′ ls′) (refer true r) → ¬ (Holds (frame id p i ops ls) (refer true r)) → rowAt t row .a ≡ opFreeze → Done → ⊥
+    not-thawed h m g s = ⊎-elim (λ u. omega (arith, u, g)) (λ u. ⊎-elim (λ w. omega (arith, w, g)) (λ w. omega (arith, w .0, g)) u) (lent h m s)
+
+    -- by BorrowFld through a read-only reference it comes to a writable one
+    pub not-lent-writable : {r q : Ref} {rest : List Value} → Holds (frame id p j ops′ ls′) (refer true r) → ¬ (Holds (frame id p i ops ls) (refer true r)) → rowAt t row .a ≡ opBorrowFld → ops ≡ refer false q ∷ rest → Done → ⊥
+    not-lent-writable {q} h m g e s =
+        ⊎-elim (λ u. omega (arith, u, g)) (λ u. ⊎-elim (λ w. omega (arith, w, g)) (λ w. let x : w .1 .0 ≡ refer false q = cc (w .1 .2, e) in clash (cc (sym (w .1 .3) ∙ ap writable x))) u) (lent h m s)

@@ -11,7 +11,7 @@ use lib.Dec.{eqb}
 use borrow.Author.Tests.{eqb-true, eq-eqb}
 use Rattle.table.specs.Format.{opWriteRef, opPack, opUnpack, opMoveTo, opMoveFrom}
 use Rattle.reach.specs.Reach.{Mem}
-use Rattle.semantics.specs.Machine.{Value, num, obj, toField, Cell, gone, here, Entry, entry, dropKey}
+use Rattle.semantics.specs.Machine.{toField, Value, num, obj, refer, Cell, gone, here, Entry, entry, dropKey}
 use Rattle.semantics.specs.Step.{pushedOn}
 use Rattle.semantics.specs.Words.{Exists, NumberIn}
 use Rattle.semantics.proofs.Changes.{clash, keyCount, Change, same, wrote, packed, unpacked, published, withdrew}
@@ -106,7 +106,7 @@ key-once y a c c′ (entry y′ a′ id ∷ st) l m n =
 
 module _ {decl : ℕ → ℕ} {m op o : ℕ} {ops : List Value} {h h′ : List Cell} {st st′ : List Entry} where
   -- a number that differs was written
-  pub changed-ok : Change decl m op o ops h st h′ st′ → (id t j x y : ℕ) → NumberIn h id t j x → NumberIn h′ id t j y → x ≢ y → (op ≡ opWriteRef) × ((under : List Value) × (ops ≡ toField id t j ∷ num y ∷ under))
+  pub changed-ok : Change decl m op o ops h st h′ st′ → (id t j x y : ℕ) → NumberIn h id t j x → NumberIn h′ id t j y → x ≢ y → (op ≡ opWriteRef) × ((under : List Value) × (ops ≡ refer true (toField id t j) ∷ num y ∷ under))
   changed-ok (same c e d) id t j x y a b n = absurd (n (uniq h id t j x y a (rw e at b)))
   changed-ok (wrote c t′ j′ x′ vs under q r l e d) id t j x y a b n =
       ⊎-elim
@@ -126,7 +126,7 @@ module _ {decl : ℕ → ℕ} {m op o : ℕ} {ops : List Value} {h h′ : List C
   changed-ok (withdrew c q m e d w) id t j x y a b n = absurd (n (uniq h id t j x y a (rw e at b)))
 
   pub fields-ok : Change decl m op o ops h st h′ st′ → (id t : ℕ) (vs vs′ : List Value) → nth h id ≡ some (here t vs) → nth h′ id ≡ some (here t vs′)
-      → (vs′ ≡ vs) ⊎ ((j z : ℕ) × (vs′ ≡ set vs j (num z)) × (op ≡ opWriteRef) × ((under : List Value) × (ops ≡ toField id t j ∷ num z ∷ under)))
+      → (vs′ ≡ vs) ⊎ ((j z : ℕ) × (vs′ ≡ set vs j (num z)) × (op ≡ opWriteRef) × ((under : List Value) × (ops ≡ refer true (toField id t j) ∷ num z ∷ under)))
   fields-ok (same c e d) id t vs vs′ a b = inl (cc (a, rw e at b))
   fields-ok (wrote c t′ j′ x′ us under q r l e d) id t vs vs′ a b =
       ⊎-elim
@@ -222,7 +222,7 @@ module _ {decl : ℕ → ℕ} {m op o : ℕ} {ops : List Value} {h h′ : List C
   left-ok (withdrew c q m e d w) t a r k n = ⊎-elim (λ z. (q, sym (z .0), rw (← z .0) at m)) (λ z. absurd (n (rw d z))) (drop-out t a r st o c k)
 
   -- a number that is written is there afterwards
-  pub written-ok : Change decl m op o ops h st h′ st′ → (id t j x z : ℕ) (under : List Value) → NumberIn h′ id t j x → op ≡ opWriteRef → ops ≡ toField id t j ∷ num z ∷ under → x ≡ z
+  pub written-ok : Change decl m op o ops h st h′ st′ → (id t j x z : ℕ) (under : List Value) → NumberIn h′ id t j x → op ≡ opWriteRef → ops ≡ refer true (toField id t j) ∷ num z ∷ under → x ≡ z
   written-ok (same c e d) id t j x z under b q r = absurd (c q id t j z under r)
   written-ok (wrote c t′ j′ x′ vs under′ q′ r′ l e d) id t j x z under b q r =
       let same-id : c ≡ id = cc (r, r′) in

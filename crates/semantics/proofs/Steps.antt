@@ -1,32 +1,37 @@
 -- A step of an accepted table: what comes up has its operands, is not stuck, and keeps what holds.
-use Prim.Native.Nat.{ℕ, zero, suc, _<_}
+use Prim.Native.Nat.{ℕ, _<_}
 use mathlib.Core.Path.{_≡_, refl, ap, sym, _∙_}
 use mathlib.Core.List.{List, [], _∷_, map}
-use mathlib.Core.Bool.{Bool, true}
+use mathlib.Core.Bool.{Bool, true, false, cond}
 use mathlib.Core.Option.{Option}
+use mathlib.Core.Logic.{_⊎_, inl, inr}
 use native.Mathlib.Omega.{arith}
 use lib.ListN.{length}
-use Rattle.table.specs.Format.{pastOpcodes}
+use Rattle.table.specs.Format.{pastOpcodes, opWriteRef, opFreeze}
 use Rattle.laws.proofs.Cases.{_▸_, below-each}
+use Rattle.table.specs.declared.index.Index.{Index}
 use Rattle.table.specs.Index.{indexOf}
-use Rattle.declarations.specs.Program.{procedureIn, instructionIn}
-use Rattle.effects.specs.Kinds.{good}
+use Rattle.declarations.specs.Program.{number, numberRef, isWritable, procedureIn, instructionIn}
+use Rattle.effects.specs.Kinds.{good, topOf}
 use Rattle.effects.specs.Effects.{Effect, effects}
+use Rattle.operands.specs.Operands.{kindsBefore}
 use Rattle.operands.specs.Flow.{onto, effectIn}
 use Rattle.flow.specs.Walks.{pushedOn as marksOn}
 use Rattle.acceptance.specs.Judged.{Instruction, Judged}
-use Rattle.semantics.specs.Machine.{Value, valueKind, Cell, Entry, Frame, frame, State, state, Outcome, stuck}
-use Rattle.semantics.specs.Step.{taken, took, topKind, instruction, effectAt, act, step}
+use Rattle.semantics.specs.Machine.{Ref, refKind, Value, num, obj, refer, valueKind, Cell, Entry, Frame, frame, State, state, Outcome, next, stopped, stuck}
+use Rattle.semantics.specs.Step.{Taken, missing, took, taken, withTaken, one, withReference, actions, topKind, instruction, effectAt, act, step}
 use Rattle.semantics.specs.Ownership.{inValues}
 use Rattle.semantics.proofs.Indexed.{moduleIn, declarerIn}
 use Rattle.semantics.specs.Claim.{Owned}
 use Rattle.semantics.proofs.Counts.{held-rev}
-use Rattle.semantics.proofs.Changes.{Change}
+use Rattle.semantics.proofs.Changes.{clash, Change}
+use Rattle.semantics.proofs.Sorts.{number-writable, is-writable}
 use Rattle.semantics.proofs.Typing.{has-kinds, Took, take-off}
+use Rattle.semantics.proofs.Places.{top-refers}
 use Rattle.semantics.proofs.Frames.{FrameOk, Suspended, Stack, runs, Inv}
-use Rattle.semantics.proofs.Instructions.{effect-at, effect-same}
+use Rattle.semantics.proofs.Instructions.{effect-at}
 use Rattle.semantics.proofs.Running.{OutcomeOk, Running}
-use Rattle.semantics.proofs.Cases.{Case, ok-pop, ok-load, ok-mv, ok-cp, ok-st, ok-borrow, ok-read, ok-write, ok-field, ok-pack, ok-unpack, ok-to, ok-from, ok-global, ok-exists, ok-call, ok-ret, ok-branch, ok-cond, ok-op}
+use Rattle.semantics.proofs.Cases.{Case, ok-pop, ok-load, ok-mv, ok-cp, ok-st, ok-borrow, ok-read, ok-write, ok-field, ok-pack, ok-unpack, ok-to, ok-from, ok-global, ok-exists, ok-call, ok-ret, ok-branch, ok-cond, ok-op, ok-freeze}
 
 -- all opcodes
 by-opcode : {t : List ℕ} {T W : List ℕ} {id p i : ℕ} {ops vs under : List Value} {ls : List (Option Value)} {fs : List Frame} {h : List Cell} {st : List Entry} {n : ℕ}
@@ -34,7 +39,7 @@ by-opcode : {t : List ℕ} {T W : List ℕ} {id p i : ℕ} {ops vs under : List 
 by-opcode R =
     below-each (Case R) pastOpcodes
     (ok-pop R ▸ ok-load R ▸ ok-mv R ▸ ok-cp R ▸ ok-st R ▸ ok-borrow R ▸ ok-read R ▸ ok-write R ▸ ok-field R ▸ ok-pack R ▸ ok-unpack R
-    ▸ ok-to R ▸ ok-from R ▸ ok-global R ▸ ok-exists R ▸ ok-call R ▸ ok-ret R ▸ ok-branch R ▸ ok-cond R ▸ ok-op R ▸ tt)
+    ▸ ok-to R ▸ ok-from R ▸ ok-global R ▸ ok-exists R ▸ ok-call R ▸ ok-ret R ▸ ok-branch R ▸ ok-cond R ▸ ok-op R ▸ ok-freeze R ▸ tt)
 
 no-gap : (G O : List Bool) → length G ≡ 0 → marksOn G O ≡ O
 unfolding marksOn
@@ -44,9 +49,31 @@ no-gap (b ∷ G) O e = absurd (omega arith)
 good-same : {xs ys : List ℕ} → good xs ≡ good ys → xs ≡ ys
 good-same e = cc
 
-top-is : (ops : List Value) (k : ℕ) (ks : List ℕ) → map valueKind ops ≡ k ∷ ks → topKind ops ≡ k
-top-is [] k ks e = cc
-top-is (v ∷ ops) k ks e = cc
+top-is : (ops : List Value) → topKind ops ≡ topOf (good (map valueKind ops))
+unfolding topOf
+top-is [] = refl
+top-is (v ∷ ops) = refl
+
+-- Freeze stops at nothing
+module _ (t : List ℕ) (ix : Index) (id p i : ℕ) (ops : List Value) (ls : List (Option Value)) (fs : List Frame) (rs : List Cell) (st : List Entry) (n : ℕ) where
+  pub freeze-runs : instruction t ix p i .a ≡ opFreeze → (k : ℕ) → step t ix (state (frame id p i ops ls ∷ fs) rs st n) ≡ stopped k → ⊥
+  unfolding act actions
+  freeze-runs e k q = go (effectAt t ix p i ops .fit) (taken (effectAt t ix p i ops .takes) ops) _ (rw e at q)
+    where
+      held : (v : Value) (o : Ref → State) → withReference v (λ (r : Ref). next (o r)) ≡ stopped k → ⊥
+      held (num x) o z = clash (cc)
+      held (obj a y) o z = clash (cc)
+      held (refer w r) o z = clash (cc)
+
+      only : (vs : List Value) (o : Ref → State) → one vs (λ (v : Value). withReference v (λ (r : Ref). next (o r))) ≡ stopped k → ⊥
+      only [] o z = clash (cc)
+      only (v ∷ []) o z = held v o z
+      only (v ∷ w ∷ vs) o z = clash (cc)
+
+      go : (c : Bool) (x : Taken) (o : List Value → Ref → State) → cond c (withTaken x λ (vs rest : List Value). one vs (λ (v : Value). withReference v (λ (r : Ref). next (o rest r)))) stuck ≡ stopped k → ⊥
+      go true missing o z = clash (cc)
+      go true (took vs rest) o z = only vs (o rest) z
+      go false x o z = clash (cc)
 
 -- what holds of a state
 abbrev pub StateOk : List ℕ → State → Type 0
@@ -76,16 +103,35 @@ module _ (t : List ℕ) (judged : Judged t (indexOf t)) where
 
     -- the effect is the one that the judge found
     effect-found : effectAt t (indexOf t) p i ops ≡ effect
-    unfolding effectAt effects onto
-    effect-found = go (instructionIn t (indexOf t) p i .a) refl
-      where
-        popped : instructionIn t (indexOf t) p i .a ≡ 0 → topKind ops ≡ instr .flow .top
-        popped e = top-is ops (instr .flow .top) (instr .flow .rest)
-            (has-kinds (f .has) ∙ kinds-are ∙ ap (λ (x : Effect). onto (x .takes) (instr .flow .rest)) (effect-at t (indexOf t) (procedureIn (indexOf t) p) i 0 (instr .flow .top) e))
+    unfolding effectAt onto
+    effect-found =
+        let top : topKind ops ≡ instr .flow .top = top-is ops ∙ ap (λ (ks : List ℕ). topOf (good ks)) (has-kinds (f .has)) ∙ ap topOf (sym (f .kinds)) ∙ sym (instr .flow .told) in
+        ap (λ (k : ℕ). effectIn t (indexOf t) (procedureIn (indexOf t) p) k i) top
 
-        go : (a : ℕ) → instructionIn t (indexOf t) p i .a ≡ a → effectIn t (indexOf t) (procedureIn (indexOf t) p) (topKind ops) i ≡ effect
-        go zero e = ap (λ (k : ℕ). effectIn t (indexOf t) (procedureIn (indexOf t) p) k i) (popped e)
-        go (suc a) e = effect-same t (indexOf t) (procedureIn (indexOf t) p) i a (topKind ops) (instr .flow .top) e
+    -- WriteRef and Freeze find a writable reference on top
+    write-finds : instructionIn t (indexOf t) p i .a ≡ opWriteRef → (r : Ref) × (rest : List Value) × (ops ≡ refer true r ∷ rest)
+    unfolding effects onto
+    write-finds e =
+        let x = effect-at t (indexOf t) (procedureIn (indexOf t) p) i opWriteRef (instr .flow .top) e in
+        let a = top-refers numberRef (number ∷ instr .flow .rest) number-writable (f .has) (kinds-are ∙ ap (λ (y : Effect). onto (y .takes) (instr .flow .rest)) x) in
+        (a .0, a .1, a .2)
+
+    pub freeze-finds : instructionIn t (indexOf t) p i .a ≡ opFreeze → (r : Ref) × (rest : List Value) × (ops ≡ refer true r ∷ rest) × (isWritable (refKind r) ≡ true)
+    unfolding effects onto
+    freeze-finds e =
+        let x = effect-at t (indexOf t) (procedureIn (indexOf t) p) i opFreeze (instr .flow .top) e in
+        let fit = sym (ap (λ (y : Effect). y .fit) x) ∙ instr .flow .fit in
+        let a = top-refers (instr .flow .top) (instr .flow .rest) (is-writable (instr .flow .top) fit) (f .has) (kinds-are ∙ ap (λ (y : Effect). onto (y .takes) (instr .flow .rest)) x) in
+        (a .0, a .1, a .2, ap isWritable (a .3) ∙ fit)
+
+    pub writes-through : (instructionIn t (indexOf t) p i .a ≡ opWriteRef) ⊎ (instructionIn t (indexOf t) p i .a ≡ opFreeze) → (w : Bool) (r : Ref) (rest : List Value) → ops ≡ refer w r ∷ rest → w ≡ true
+    writes-through (inl e) w r rest q = let a = write-finds e .2 in cc (a, q)
+    writes-through (inr e) w r rest q = let a = freeze-finds e .2 in cc (a, q)
+
+    -- the operands have the kinds that the judge found
+    pub kinds-found : kindsBefore t (indexOf t) (procedureIn (indexOf t) p) i ≡ good (map valueKind ops)
+    unfolding onto
+    kinds-found = f .kinds ∙ ap good (sym (has-kinds (f .has)))
 
   running : {fs : List Frame} {h : List Cell} {st : List Entry} {n : ℕ} (v : Inv t (indexOf t) fs h st n) {id p i : ℕ} {ops : List Value} {ls : List (Option Value)} {gs : List Frame}
       (f : FrameOk t (indexOf t) (v .T) (v .W) i [] id p ops ls) → Suspended t (indexOf t) (v .T) (v .W) p gs → Owned (frame id p i ops ls ∷ gs) h st

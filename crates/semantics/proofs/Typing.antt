@@ -11,9 +11,10 @@ use Rattle.table.specs.declared.index.Index.{Index}
 use Rattle.declarations.specs.Program.{number, recordOf, numberRef, recordRef, referenceTo, isRecord, isReference, procedureIn, typeIn, fieldKinds}
 use Rattle.operands.specs.Flow.{onto}
 use Rattle.flow.specs.Walks.{Slot, empty, full, pushedOn as marksOn}
+use Rattle.acceptance.specs.Checked.{Unmarked}
 use Rattle.acceptance.specs.Judged.{localKinds}
 use Rattle.arithmetic.specs.Arithmetic.{pastNumbers}
-use Rattle.semantics.specs.Machine.{Value, num, obj, toLocal, toField, toRecord, valueKind, Cell, gone, here, Entry, entry}
+use Rattle.semantics.specs.Machine.{toLocal, toField, toRecord, Value, num, obj, refer, asKind, valueKind, Cell, gone, here, Entry, entry}
 use Rattle.semantics.specs.Step.{pushedOn, took, taken, isObject}
 use Rattle.semantics.proofs.Indexed.{declarerIn, guardedIn}
 use Rattle.semantics.specs.Claim.{All, none-left, also}
@@ -23,14 +24,14 @@ abbrev pub Word : ℕ → Type 0
 Word n = n < pastNumbers
 
 -- A value of kind k at a place that is marked or not, in a frame of module m. T has the type of each record ever made, W the procedure of each frame ever
--- made. A reference to a guarded field stands at a marked place, in a frame of the module that declares it.
+-- made. A writable reference to a guarded field stands at a marked place, in a frame of the module that declares it.
 pub data Fit (t : List ℕ) (ix : Index) (T W : List ℕ) (m : ℕ) : Value → ℕ → Bool → Type 0 where
   fnum : {n k : ℕ} {b : Bool} → Word n → k ≡ number → Fit t ix T W m (num n) k b
   fobj : {id y k : ℕ} {b : Bool} → nth T id ≡ some y → k ≡ recordOf y → Fit t ix T W m (obj id y) k b
-  floc : {f l p c k : ℕ} {b : Bool} → nth W f ≡ some p → nth (localKinds t (procedureIn ix p)) l ≡ some c → isReference c ≡ false → k ≡ referenceTo c → Fit t ix T W m (toLocal f l c) k b
-  ffld : {id y j k : ℕ} {b : Bool} → nth T id ≡ some y → nth (fieldKinds t (typeIn ix y)) j ≡ some number → (guardedIn t ix y j ≡ true → (b ≡ true) × (declarerIn ix y ≡ m)) → k ≡ numberRef
-      → Fit t ix T W m (toField id y j) k b
-  frec : {id y k : ℕ} {b : Bool} → nth T id ≡ some y → k ≡ recordRef y → Fit t ix T W m (toRecord id y) k b
+  floc : {w : Bool} {f l p c k : ℕ} {b : Bool} → nth W f ≡ some p → nth (localKinds t (procedureIn ix p)) l ≡ some c → isReference c ≡ false → k ≡ asKind w (referenceTo c) → Fit t ix T W m (refer w (toLocal f l c)) k b
+  ffld : {w : Bool} {id y j k : ℕ} {b : Bool} → nth T id ≡ some y → nth (fieldKinds t (typeIn ix y)) j ≡ some number → (w ≡ true → guardedIn t ix y j ≡ true → (b ≡ true) × (declarerIn ix y ≡ m)) → k ≡ asKind w numberRef
+      → Fit t ix T W m (refer w (toField id y j)) k b
+  frec : {w : Bool} {id y k : ℕ} {b : Bool} → nth T id ≡ some y → k ≡ asKind w (recordRef y) → Fit t ix T W m (refer w (toRecord id y)) k b
 
 -- operands, with their kinds and marks
 pub data Has (t : List ℕ) (ix : Index) (T W : List ℕ) (m : ℕ) : List Value → List ℕ → List Bool → Type 0 where
@@ -88,12 +89,12 @@ module _ {t : List ℕ} {ix : Index} {T W : List ℕ} where
     slots-more (sempty h) = sempty (slots-more h)
     slots-more (sfull f h) = sfull (fit-more f) (slots-more h)
 
-  -- a value at an unmarked place fits at any place, in any module
-  pub unmark : {m m′ : ℕ} {v : Value} {k : ℕ} {b : Bool} (b′ : Bool) → b ≡ false → Fit t ix T W m v k b → Fit t ix T W m′ v k b′
+  -- a value that is no writable reference to a number, or stands at an unmarked place, fits at any place, in any module
+  pub unmark : {m m′ : ℕ} {v : Value} {k : ℕ} {b : Bool} (b′ : Bool) → (k ≡ numberRef → b ≡ false) → Fit t ix T W m v k b → Fit t ix T W m′ v k b′
   unmark b′ z (fnum y q) = fnum y q
   unmark b′ z (fobj e q) = fobj e q
   unmark b′ z (floc e d c q) = floc e d c q
-  unmark b′ z (ffld e d c q) = ffld e d (λ y. absurd (true≢false (sym (c y .0) ∙ z))) q
+  unmark b′ z (ffld e d c q) = ffld e d (λ v y. absurd (true≢false (sym (c v y .0) ∙ z (q ∙ ap (λ (w : Bool). asKind w numberRef) v)))) q
   unmark b′ z (frec e q) = frec e q
 
   pub has-push : {m : ℕ} {vs ops : List Value} {ks rest : List ℕ} {bs O : List Bool} → Has t ix T W m vs ks bs → Has t ix T W m ops rest O
@@ -137,10 +138,6 @@ pub entries-more : (T U : List ℕ) → _⊑_ T U → {st : List Entry} → All 
 entries-more T U g none-left = none-left
 entries-more T U g (also {x} k h) = also (entry-more T U g x k) (entries-more T U g h)
 
--- the first n operands are unmarked
-abbrev pub Clean : ℕ → List Bool → Type 0
-Clean n O = (j : ℕ) → j < n → getD O j false ≡ false
-
 -- the operands that an instruction takes are there
 pub record Took (t : List ℕ) (ix : Index) (T W : List ℕ) (m : ℕ) (ops : List Value) (ks rest : List ℕ) (O : List Bool) : Type 0 where
   pub vs : List Value
@@ -151,7 +148,7 @@ pub record Took (t : List ℕ) (ix : Index) (T W : List ℕ) (m : ℕ) (ops : Li
   pub marks : O ≡ marksOn bs (drop (length ks) O)
   pub has : Has t ix T W m vs ks bs
   pub left : Has t ix T W m under rest (drop (length ks) O)
-  pub out : (m′ : ℕ) (bs′ : List Bool) → length bs′ ≡ length ks → Clean (length ks) O → Has t ix T W m′ vs ks bs′
+  pub out : (m′ : ℕ) (bs′ : List Bool) → length bs′ ≡ length ks → Unmarked ks O → Has t ix T W m′ vs ks bs′
 
 drop-suc : (l : List Bool) (n : ℕ) (b : Bool) (r : List Bool) → drop n l ≡ b ∷ r → drop (suc n) l ≡ r
 drop-suc [] zero b r e = cc
@@ -166,13 +163,13 @@ drop-get (x ∷ l) zero b r e = cc
 drop-get (x ∷ l) (suc n) b r e = drop-get l n b r e
 
 module _ {t : List ℕ} {ix : Index} {T W : List ℕ} {m : ℕ} where
-  also-out : {v : Value} {k : ℕ} {b : Bool} {vs : List Value} {ks : List ℕ} (m′ : ℕ) (bs′ : List Bool) → b ≡ false → Fit t ix T W m v k b → length bs′ ≡ suc (length ks)
+  also-out : {v : Value} {k : ℕ} {b : Bool} {vs : List Value} {ks : List ℕ} (m′ : ℕ) (bs′ : List Bool) → (k ≡ numberRef → b ≡ false) → Fit t ix T W m v k b → length bs′ ≡ suc (length ks)
       → ((cs : List Bool) → length cs ≡ length ks → Has t ix T W m′ vs ks cs) → Has t ix T W m′ (v ∷ vs) (k ∷ ks) bs′
   also-out m′ [] z f e o = absurd (omega arith)
   also-out m′ (c ∷ cs) z f e o = hcons (unmark c z f) (o cs (omega arith))
 
   took-more : {ops : List Value} {k : ℕ} {ks rest : List ℕ} {O : List Bool} (vs under : List Value) (bs D : List Bool) → taken ks ops ≡ took vs under → ops ≡ pushedOn vs under → O ≡ marksOn bs (drop (length ks) O)
-      → Has t ix T W m vs ks bs → ((m′ : ℕ) (bs′ : List Bool) → length bs′ ≡ length ks → Clean (length ks) O → Has t ix T W m′ vs ks bs′) → drop (length ks) O ≡ D → Has t ix T W m under (k ∷ rest) D
+      → Has t ix T W m vs ks bs → ((m′ : ℕ) (bs′ : List Bool) → length bs′ ≡ length ks → Unmarked ks O → Has t ix T W m′ vs ks bs′) → drop (length ks) O ≡ D → Has t ix T W m under (k ∷ rest) D
       → Took t ix T W m ops (k ∷ ks) rest O
   unfolding marksOn
   took-more {ops} {k} {ks} {rest} {O} vs under bs D e s w h o d (hcons {v} {b} {vs = us} {bs = B} f g) = record {
@@ -184,7 +181,7 @@ module _ {t : List ℕ} {ix : Index} {T W : List ℕ} {m : ℕ} where
     marks = w ∙ ap (marksOn bs) (d ∙ ap (λ (l : List Bool). b ∷ l) (sym (drop-suc O (length ks) b B d)));
     has = hcons f h;
     left = rw (drop-suc O (length ks) b B d) g;
-    out = λ m′ bs′ l c. also-out m′ bs′ (sym (drop-get O (length ks) b B d) ∙ c (length ks) (omega arith)) f l (λ cs q. o m′ cs q (λ j z. c j (omega arith)));
+    out = λ m′ bs′ l c. also-out m′ bs′ (λ e. sym (drop-get O (length ks) b B d) ∙ c [] ks (ap (λ (x : ℕ). x ∷ ks) e)) f l (λ cs q. o m′ cs q (λ before after z. c (k ∷ before) after (ap (λ (l : List ℕ). k ∷ l) z)));
   }
 
   pub take-off : (ks : List ℕ) {ops : List Value} {rest : List ℕ} {O : List Bool} → Has t ix T W m ops (onto ks rest) O → Took t ix T W m ops ks rest O

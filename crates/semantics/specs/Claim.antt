@@ -1,19 +1,22 @@
 -- Demand 3: what is safe of an event of a list of calls. `Chain` says which events there are.
 use Prim.Native.Nat.{ℕ, _+_, _-_, _/_, _%_, _<_, _≤_}
 use mathlib.Core.Path.{_≡_}
-use mathlib.Core.Bool.{true, false}
+use mathlib.Core.Bool.{Bool, true, false}
 use mathlib.Core.List.{List, [], _∷_, map}
 use mathlib.Core.Logic.{_≢_, _⊎_}
 use mathlib.Core.Option.{Option, some}
 use lib.ListN.{length, set, getElem? as nth}
 use Rattle.table.specs.declared.index.Index.{Index}
-use Rattle.table.specs.Format.{instructionKind, maxResults, opWriteRef, opBorrowLoc, opBorrowFld, opBorrowGlobal, opCall, opRet, opPack, opUnpack, opMoveTo, opMoveFrom}
+use Rattle.table.specs.Format.{instructionKind, maxResults, opWriteRef, opBorrowLoc, opBorrowFld, opBorrowGlobal, opCall, opRet, opPack, opUnpack, opMoveTo, opMoveFrom, opFreeze}
 use Rattle.table.specs.Rows.{rowAt, kindAt}
 use Rattle.table.specs.Index.{ownerAt}
 use Rattle.declarations.specs.Program.{number, isReference, procedureIn, localKind, localCount}
+use Rattle.effects.specs.Kinds.{good}
+use Rattle.operands.specs.Operands.{kindsBefore}
 use Rattle.reach.specs.Reach.{Mem}
 use Rattle.arithmetic.specs.Arithmetic.{pastNumbers}
-use Rattle.semantics.specs.Machine.{Value, valueKind, num, obj, toLocal, toField, toRecord, putLocal, findKey, Cell, here, Entry, Frame, frame, State, state, Outcome, next, finished, stopped, stuck, aRecord, target}
+use Rattle.semantics.specs.Machine.{Ref, toLocal, toField, toRecord, Value, valueKind, writable, num, obj, refer, putLocal, findKey, Cell, here, Entry, Frame, frame, State, state, Outcome, next, finished, stopped, stuck, aRecord, target}
+use Rattle.semantics.specs.Limits.{budgetSpent}
 use Rattle.semantics.specs.Step.{pushedOn, startLocals, took, taken, instruction, effectAt, step}
 use Rattle.semantics.specs.History.{Base, base, Event, moment, ended}
 use Rattle.semantics.specs.Ownership.{inFrames, inRecords, inStore, livesAt}
@@ -53,17 +56,13 @@ Rising n (frame id p i ops ls ∷ fs) = (id < n) × Rising id fs
 abbrev pub IsReference : Value → Type 0
 IsReference (num n) = ⊥
 IsReference (obj id y) = ⊥
-IsReference (toLocal f l k) = Unit {0}
-IsReference (toField id y j) = Unit {0}
-IsReference (toRecord id y) = Unit {0}
+IsReference (refer w r) = Unit {0}
 
 -- what a field may hold: a number of 64 bits or a record, no reference
 abbrev pub Plain : Value → Type 0
 Plain (num n) = n < pastNumbers
 Plain (obj id y) = Unit {0}
-Plain (toLocal f l k) = ⊥
-Plain (toField id y j) = ⊥
-Plain (toRecord id y) = ⊥
+Plain (refer w r) = ⊥
 
 -- of a table
 module _ (t : List ℕ) where
@@ -89,9 +88,9 @@ module _ (t : List ℕ) where
   abbrev pub Labelled : List Frame → List Cell → ℕ → Value → Type 0
   Labelled fs rs n (num x) = x < pastNumbers
   Labelled fs rs n (obj id y) = Exists rs id y
-  Labelled fs rs n (toRecord id y) = Existed rs id y
-  Labelled fs rs n (toField id y j) = Existed rs id y × (nth (kindsIn t y) j ≡ some number)
-  Labelled fs rs n (toLocal f l k) =
+  Labelled fs rs n (refer w (toRecord id y)) = Existed rs id y
+  Labelled fs rs n (refer w (toField id y j)) = Existed rs id y × (nth (kindsIn t y) j ≡ some number)
+  Labelled fs rs n (refer w (toLocal f l k)) =
       (f < n) × (isReference k ≡ false) × ((p i : ℕ) (ops : List Value) (ls : List (Option Value)) → Mem (frame f p i ops ls) fs → (l < localCount (bodyOf t p)) × (localKind t (bodyOf t p) l ≡ k))
 
   -- what a frame holds is what it says, and in a local of the declared kind
@@ -105,14 +104,14 @@ module _ (t : List ℕ) where
     under : {q id p i : ℕ} {ops : List Value} {ls : List (Option Value)} {fs : List Frame} → p < procedureCount t → instructionRow t p i < bodyOf t p .end
         → rowAt t (instructionRow t p i) .a ≡ opCall → rowAt t (instructionRow t p i) .b ≡ q → Linked p fs → Linked q (frame id p i ops ls ∷ fs)
 
-  -- 2. No frame of a guest holds a reference to a guarded field; others hold only those of their own module's types
+  -- 2. No frame of a guest holds a writable reference to a guarded field; others hold only those of their own module's types
   abbrev pub Kept : Frame → Type 0
   Kept (frame id p i ops ls) =
-      (v : Value) → Holds (frame id p i ops ls) v → GuardedReference t v → (guest t p ≡ false) × ((id′ y j : ℕ) → v ≡ toField id′ y j → declarer t y ≡ moduleOf t p)
+      (v : Value) → Holds (frame id p i ops ls) v → GuardedReference t v → (guest t p ≡ false) × ((id′ y j : ℕ) → v ≡ refer true (toField id′ y j) → declarer t y ≡ moduleOf t p)
 
-  -- The step of a row writes number z to field j of record id, of type y: it is WriteRef through a reference to that field of that record
+  -- The step of a row writes number z to field j of record id, of type y: it is WriteRef through a writable reference to that field of that record
   abbrev pub Writes : ℕ → List Value → ℕ → ℕ → ℕ → ℕ → Type 0
-  Writes row ops id y j z = (rowAt t row .a ≡ opWriteRef) × ((under : List Value) × (ops ≡ toField id y j ∷ num z ∷ under))
+  Writes row ops id y j z = (rowAt t row .a ≡ opWriteRef) × ((under : List Value) × (ops ≡ refer true (toField id y j) ∷ num z ∷ under))
 
   -- it is this instruction of type y, which exists, in the module that declares y
   pub record By (row op y : ℕ) : Type 0 where
@@ -147,15 +146,17 @@ module _ (t : List ℕ) where
     pub unkeyed : (y a id : ℕ) → IsEntry st y a id → ¬ (IsEntry st′ y a id) → (rest : List Value) × (ops ≡ num a ∷ rest)
 
   -- The step of a row makes a reference: BorrowLoc to that local of its own frame; BorrowFld, through a reference that leads to a record, to that field of
-  -- that record, or to the record that stands in it; BorrowGlobal to the record under that key
+  -- that record, or to the record that stands in it, read-only where the one that it goes through is; BorrowGlobal to the record under that key; Freeze the
+  -- read-only one to what a writable one leads to
   pub data Makes (row id p : ℕ) (ops : List Value) (fs : List Frame) (rs : List Cell) (st : List Entry) : Value → Type 0 where
-    local-made : rowAt t row .a ≡ opBorrowLoc → Makes row id p ops fs rs st (toLocal id (rowAt t row .b) (localKind t (bodyOf t p) (rowAt t row .b)))
+    local-made : rowAt t row .a ≡ opBorrowLoc → Makes row id p ops fs rs st (refer true (toLocal id (rowAt t row .b) (localKind t (bodyOf t p) (rowAt t row .b))))
     field-made : {r : Value} {under fields : List Value} {c : ℕ} → rowAt t row .a ≡ opBorrowFld → ops ≡ r ∷ under → target fs rs r ≡ aRecord c fields
-        → Makes row id p ops fs rs st (toField c (rowAt t row .b / 8) (rowAt t row .b % 8))
+        → Makes row id p ops fs rs st (refer (writable r) (toField c (rowAt t row .b / 8) (rowAt t row .b % 8)))
     nested-made : {r : Value} {under fields : List Value} {c c′ y : ℕ} → rowAt t row .a ≡ opBorrowFld → ops ≡ r ∷ under → target fs rs r ≡ aRecord c fields
-        → nth fields (rowAt t row .b % 8) ≡ some (obj c′ y) → Makes row id p ops fs rs st (toRecord c′ y)
+        → nth fields (rowAt t row .b % 8) ≡ some (obj c′ y) → Makes row id p ops fs rs st (refer (writable r) (toRecord c′ y))
     entry-made : {under : List Value} {a c : ℕ} → rowAt t row .a ≡ opBorrowGlobal → ops ≡ num a ∷ under → findKey st (rowAt t row .b) a ≡ some c
-        → Makes row id p ops fs rs st (toRecord c (rowAt t row .b))
+        → Makes row id p ops fs rs st (refer true (toRecord c (rowAt t row .b)))
+    frozen-made : {r : Ref} {under : List Value} → rowAt t row .a ≡ opFreeze → ops ≡ refer true r ∷ under → Makes row id p ops fs rs st (refer false r)
 
   -- of frames with this index
   module _ (ix : Index) where
@@ -164,10 +165,10 @@ module _ (t : List ℕ) where
     Takes p i ops vs rest = taken (effectAt t ix p i ops .takes) ops ≡ took vs rest
 
     -- What a step leaves of the frames: frame id of procedure p with locals ls ran, over the frames fs. Those under it stay as they were, but for a number
-    -- that WriteRef puts into a local through a reference to it; what a Call takes goes to the called frame, what Ret takes to the caller's
+    -- that WriteRef puts into a local through a writable reference to it; what a Call takes goes to the called frame, what Ret takes to the caller's
     pub data Handed (row id p i : ℕ) (ops : List Value) (ls : List (Option Value)) (fs : List Frame) (n : ℕ) : List Frame → ℕ → Type 0 where
       goesOn : {j : ℕ} {ops′ : List Value} {ls′ : List (Option Value)} → rowAt t row .a ≢ opCall → rowAt t row .a ≢ opRet → Handed row id p i ops ls fs n (frame id p j ops′ ls′ ∷ fs) n
-      writes : {f l k z : ℕ} {rest : List Value} → rowAt t row .a ≡ opWriteRef → ops ≡ toLocal f l k ∷ num z ∷ rest
+      writes : {f l k z : ℕ} {rest : List Value} → rowAt t row .a ≡ opWriteRef → ops ≡ refer true (toLocal f l k) ∷ num z ∷ rest
           → Handed row id p i ops ls fs n (putLocal (frame id p (i + 1) rest ls ∷ fs) f l (num z)) n
       calls : {vs rest : List Value} → rowAt t row .a ≡ opCall → Takes p i ops vs rest
           → Handed row id p i ops ls fs n (frame n (rowAt t row .b) 0 [] (startLocals vs (localCount (bodyOf t (rowAt t row .b)) - length vs)) ∷ frame id p i rest ls ∷ fs) (n + 1)
@@ -180,7 +181,8 @@ module _ (t : List ℕ) where
     Origin row id p i ops ls fs rs st (frame id′ p′ i′ ops′ ls′ ∷ fs′) =
         id′ ≡ id → (v : Value) → IsReference v → Holds (frame id′ p′ i′ ops′ ls′) v → Holds (frame id p i ops ls) v ⊎ Makes row id p ops (frame id p i ops ls ∷ fs) rs st v
 
-    -- 1. The row told is that of the instruction that comes up; no operand of it is missing or of the wrong kind, its local is fit, and it is not stuck
+    -- 1. The row told is that of the instruction that comes up; the operands have the kinds that the judge found, none that it takes is missing or of the wrong
+    -- kind, its local, or the top operand, is fit, and it is not stuck
     pub record Ready (row p i : ℕ) (ops : List Value) (s : State) : Type 0 where
       pub procedure : p < procedureCount t
       pub place : row ≡ instructionRow t p i
@@ -190,9 +192,12 @@ module _ (t : List ℕ) where
       pub body : procedureIn ix p ≡ bodyOf t p
       pub standsIn : ownerAt t row ≡ moduleOf t p
       pub guests : inGuest t row ≡ guest t p
+      pub kinds : kindsBefore t ix (procedureIn ix p) i ≡ good (map valueKind ops)
       pub fit : effectAt t ix p i ops .fit ≡ true
       pub operands : (vs rest : List Value) × Takes p i ops vs rest
       pub moves : step t ix s ≡ stuck → ⊥
+      -- WriteRef comes up with a writable reference only, to a field or to a local
+      pub through : rowAt t row .a ≡ opWriteRef → (w : Bool) (r : Ref) (rest : List Value) → ops ≡ refer w r ∷ rest → w ≡ true
 
     -- a state in which frame id of procedure p is at instruction i, with the row told
     pub record SafeState (row id p i : ℕ) (ops : List Value) (ls : List (Option Value)) (fs : List Frame) (rs : List Cell) (st : List Entry) (n : ℕ) : Type 0 where
@@ -203,12 +208,17 @@ module _ (t : List ℕ) where
       pub linked : Linked p fs
       pub rising : Rising n (frame id p i ops ls ∷ fs)
 
-    -- what comes of it: a step; the Ret of the first frame, with exactly what it takes; or a stop
+    -- Freeze takes a writable reference and pushes the read-only one to the same; nothing else differs
+    abbrev pub Freezes : (row id p i : ℕ) → List Value → List (Option Value) → List Frame → List Cell → List Entry → List Frame → List Cell → List Entry → Type 0
+    Freezes row id p i ops ls fs rs st fs′ rs′ st′ =
+        rowAt t row .a ≡ opFreeze → (r : Ref) × (under : List Value) × (ops ≡ refer true r ∷ under) × (fs′ ≡ frame id p (i + 1) (refer false r ∷ under) ls ∷ fs) × (rs′ ≡ rs) × (st′ ≡ st)
+
+    -- what comes of it: a step; the Ret of the first frame, with exactly what it takes; or a stop, of Freeze by the budget alone
     pub data SafeOutcome (row id p i : ℕ) (ops : List Value) (ls : List (Option Value)) (fs : List Frame) (rs : List Cell) (st : List Entry) (n : ℕ) : Outcome → Type 0 where
-      goes : {fs′ : List Frame} {rs′ : List Cell} {st′ : List Entry} {n′ : ℕ} → Proper row ops rs st rs′ st′ → Handed row id p i ops ls fs n fs′ n′ → Origin row id p i ops ls fs rs st fs′
+      goes : {fs′ : List Frame} {rs′ : List Cell} {st′ : List Entry} {n′ : ℕ} → Proper row ops rs st rs′ st′ → Handed row id p i ops ls fs n fs′ n′ → Origin row id p i ops ls fs rs st fs′ → Freezes row id p i ops ls fs rs st fs′ rs′ st′
           → SafeOutcome row id p i ops ls fs rs st n (next (state fs′ rs′ st′ n′))
       returnsLast : {vs : List Value} → rowAt t row .a ≡ opRet → Takes p i ops vs [] → fs ≡ [] → SafeOutcome row id p i ops ls fs rs st n (finished vs (state [] rs st n))
-      stops : {k : ℕ} → SafeOutcome row id p i ops ls fs rs st n (stopped k)
+      stops : {k : ℕ} → (rowAt t row .a ≡ opFreeze → k ≡ budgetSpent) → SafeOutcome row id p i ops ls fs rs st n (stopped k)
 
     -- 5. A stopped call leaves the store of its beginning: the same entries, and the same records with the same fields; no other record exists
     abbrev pub Restored : Base → Base → Type 0

@@ -1,27 +1,45 @@
 -- What the machine works on: values, frames, records, store (document 01, "Running").
 use Prim.Native.Nat.{ℕ, zero, suc, _+_}
-use mathlib.Core.Bool.{cond, _&&_}
+use mathlib.Core.Bool.{Bool, true, false, cond, _&&_}
 use mathlib.Core.List.{List, [], _∷_}
 use mathlib.Core.Option.{Option, none, some}
 use lib.Dec.{eqb}
 use lib.ListN.{set, getElem? as nth}
-use Rattle.declarations.specs.Program.{number, recordOf, numberRef, recordRef, referenceTo}
+use Rattle.declarations.specs.Program.{number, recordOf, numberRef, recordRef, referenceTo, frozen}
 
 -- A value is a number, a record or a reference, and a reference names a local, a field or a record. Records and frames are named by identities that
--- are never used again. A value carries its own kind, so that a stale reference still has one: a reference to a local has the local's kind.
+-- are never used again. A value carries its own kind, so that a stale reference still has one: a reference to a local has the local's kind. A reference
+-- that is not writable is read-only.
+pub data Ref : Type 0 where
+  toLocal : (frame local kind : ℕ) → Ref
+  toField : (id type field : ℕ) → Ref
+  toRecord : (id type : ℕ) → Ref
+
 pub data Value : Type 0 where
   num : ℕ → Value
   obj : (id type : ℕ) → Value
-  toLocal : (frame local kind : ℕ) → Value
-  toField : (id type field : ℕ) → Value
-  toRecord : (id type : ℕ) → Value
+  refer : (writable : Bool) → Ref → Value
+
+-- the kind of a writable reference; of one that is writable or not
+abbrev pub refKind : Ref → ℕ
+refKind (toLocal f l k) = referenceTo k
+refKind (toField id y j) = numberRef
+refKind (toRecord id y) = recordRef y
+
+abbrev pub asKind : Bool → ℕ → ℕ
+asKind true k = k
+asKind false k = frozen k
 
 abbrev pub valueKind : Value → ℕ
 valueKind (num n) = number
 valueKind (obj id y) = recordOf y
-valueKind (toLocal f l k) = referenceTo k
-valueKind (toField id y j) = numberRef
-valueKind (toRecord id y) = recordRef y
+valueKind (refer w r) = asKind w (refKind r)
+
+-- whether a value can be written through
+abbrev pub writable : Value → Bool
+writable (num n) = false
+writable (obj id y) = false
+writable (refer w r) = w
 
 -- A record is found by its identity, its place in a list. One that was unpacked stays there with its type, and no more.
 pub data Cell : Type 0 where
@@ -102,17 +120,13 @@ abbrev pub inLocal : List Cell → Option Value → Target
 inLocal rs none = stale
 inLocal rs (some (num n)) = aNumber n
 inLocal rs (some (obj id y)) = inCell id (nth rs id)
-inLocal rs (some (toLocal f l k)) = wrong
-inLocal rs (some (toField id y j)) = wrong
-inLocal rs (some (toRecord id y)) = wrong
+inLocal rs (some (refer w r)) = wrong
 
 abbrev pub numberIn : Option Value → Target
 numberIn none = wrong
 numberIn (some (num n)) = aNumber n
 numberIn (some (obj id y)) = wrong
-numberIn (some (toLocal f l k)) = wrong
-numberIn (some (toField id y j)) = wrong
-numberIn (some (toRecord id y)) = wrong
+numberIn (some (refer w r)) = wrong
 
 abbrev pub inField : Target → ℕ → Target
 inField (aRecord id vs) j = numberIn (nth vs j)
@@ -120,24 +134,27 @@ inField (aNumber n) j = wrong
 inField stale j = stale
 inField wrong j = wrong
 
+abbrev pub leadsTo : List Frame → List Cell → Ref → Target
+leadsTo fs rs (toLocal f l k) = inLocal rs (localOf fs f l)
+leadsTo fs rs (toField id y j) = inField (inCell id (nth rs id)) j
+leadsTo fs rs (toRecord id y) = inCell id (nth rs id)
+
 abbrev pub target : List Frame → List Cell → Value → Target
 target fs rs (num n) = wrong
 target fs rs (obj id y) = wrong
-target fs rs (toLocal f l k) = inLocal rs (localOf fs f l)
-target fs rs (toField id y j) = inField (inCell id (nth rs id)) j
-target fs rs (toRecord id y) = inCell id (nth rs id)
+target fs rs (refer w r) = leadsTo fs rs r
 
 -- a number written through a reference: into a local, or into a field
 abbrev pub writeFrames : List Frame → Value → Value → List Frame
-writeFrames fs (toLocal f l k) v = putLocal fs f l v
+writeFrames fs (refer w (toLocal f l k)) v = putLocal fs f l v
+writeFrames fs (refer w (toField id y j)) v = fs
+writeFrames fs (refer w (toRecord id y)) v = fs
 writeFrames fs (num n) v = fs
 writeFrames fs (obj id y) v = fs
-writeFrames fs (toField id y j) v = fs
-writeFrames fs (toRecord id y) v = fs
 
 abbrev pub writeRecords : List Cell → Value → Value → List Cell
-writeRecords rs (toField id y j) v = putField rs id j v
+writeRecords rs (refer w (toField id y j)) v = putField rs id j v
+writeRecords rs (refer w (toLocal f l k)) v = rs
+writeRecords rs (refer w (toRecord id y)) v = rs
 writeRecords rs (num n) v = rs
 writeRecords rs (obj id y) v = rs
-writeRecords rs (toLocal f l k) v = rs
-writeRecords rs (toRecord id y) v = rs

@@ -2,7 +2,7 @@
 use Prim.Native.Nat.{ℕ, zero, suc, _+_}
 use mathlib.Core.List.{List, [], _∷_}
 use mathlib.Core.Option.{Option, none, some}
-use Rattle.semantics.specs.Machine.{Value, num, obj, toLocal, toField, toRecord, Cell, gone, here, Entry, entry, Frame, frame, lives}
+use Rattle.semantics.specs.Machine.{Value, num, obj, refer, Cell, gone, here, Entry, entry, Frame, frame, lives}
 
 -- 1 where two identities are the same, else 0
 abbrev pub same : ℕ → ℕ → ℕ
@@ -15,9 +15,7 @@ same (suc i) (suc j) = same i j
 abbrev pub inValue : ℕ → Value → ℕ
 inValue r (num n) = 0
 inValue r (obj id y) = same r id
-inValue r (toLocal f l k) = 0
-inValue r (toField id y j) = 0
-inValue r (toRecord id y) = 0
+inValue r (refer w x) = 0
 
 abbrev pub inValues : ℕ → List Value → ℕ
 inValues r [] = 0

@@ -1,4 +1,4 @@
--- One instruction: the twenty opcodes of document 01 and their stops.
+-- One instruction: the opcodes of document 01 and their stops.
 use Prim.Native.Nat.{ℕ, _+_, _-_, _/_, _%_}
 use mathlib.Core.Bool.{Bool, true, false, cond}
 use mathlib.Core.List.{List, [], _∷_, _++_}
@@ -14,7 +14,7 @@ use Rattle.arithmetic.specs.declared.Calculated.{Calculated}
 use Rattle.arithmetic.specs.declared.Calculated.the-variants.{Value as Gives, OutOfRange, Unknown}
 use Rattle.arithmetic.specs.Arithmetic.{calculation}
 use Rattle.semantics.specs.Limits.{maxFrames, maxRecords, maxEntries, outOfRange, keyTaken, noSuchKey, staleReference, tooManyFrames, tooManyRecords, tooManyEntries}
-use Rattle.semantics.specs.Machine.{Value, num, obj, toLocal, toField, toRecord, valueKind, Cell, gone, here, Entry, entry, Frame, frame, State, state, Outcome, next, finished, stopped, stuck, liveCount, findKey, dropKey, Target, aNumber, aRecord, stale, wrong, inCell, target, writeFrames, writeRecords}
+use Rattle.semantics.specs.Machine.{Ref, toLocal, toField, toRecord, Value, num, obj, refer, valueKind, writable, Cell, gone, here, Entry, entry, Frame, frame, State, state, Outcome, next, finished, stopped, stuck, liveCount, findKey, dropKey, Target, aNumber, aRecord, stale, wrong, inCell, target, writeFrames, writeRecords}
 
 -- values pushed on operands, the first of the list first
 abbrev pub pushedOn : List Value → List Value → List Value
@@ -54,16 +54,18 @@ two (v ∷ vs) k = one vs (k v)
 abbrev pub withNumber : Value → (ℕ → Outcome) → Outcome
 withNumber (num n) k = k n
 withNumber (obj id y) k = stuck
-withNumber (toLocal f l c) k = stuck
-withNumber (toField id y j) k = stuck
-withNumber (toRecord id y) k = stuck
+withNumber (refer w r) k = stuck
 
 abbrev pub withRecord : Value → (ℕ → Outcome) → Outcome
 withRecord (obj id y) k = k id
 withRecord (num n) k = stuck
-withRecord (toLocal f l c) k = stuck
-withRecord (toField id y j) k = stuck
-withRecord (toRecord id y) k = stuck
+withRecord (refer w r) k = stuck
+
+-- a reference
+abbrev pub withReference : Value → (Ref → Outcome) → Outcome
+withReference (refer w r) k = k r
+withReference (num n) k = stuck
+withReference (obj id y) k = stuck
 
 -- the number, or the record and its fields, that a reference leads to
 abbrev pub numberAt : Target → (ℕ → Outcome) → Outcome
@@ -112,13 +114,11 @@ nothingUnder [] o = o
 nothingUnder (v ∷ ops) o = stuck
 
 -- a reference to field j of record id of type y, which holds a value: to the number, or to the record that stands in the field
-abbrev pub fieldReference : ℕ → ℕ → ℕ → Option Value → (Value → Outcome) → Outcome
+abbrev pub fieldReference : ℕ → ℕ → ℕ → Option Value → (Ref → Outcome) → Outcome
 fieldReference id y j none k = stuck
 fieldReference id y j (some (num n)) k = k (toField id y j)
 fieldReference id y j (some (obj id′ y′)) k = k (toRecord id′ y′)
-fieldReference id y j (some (toLocal f l c)) k = stuck
-fieldReference id y j (some (toField a b c)) k = stuck
-fieldReference id y j (some (toRecord a b)) k = stuck
+fieldReference id y j (some (refer w r)) k = stuck
 
 -- what is under a key of the store, or not
 abbrev pub underKey : Option ℕ → Outcome → (ℕ → Outcome) → Outcome
@@ -183,7 +183,7 @@ module _ (b d kind others : ℕ) (vs : List Value) (id p i : ℕ) (ops : List Va
   stLoc = one vs λ (v : Value). fillable (nth ls b) (pushAndSet [] (some v))
 
   abbrev pub borrowLoc : Outcome
-  borrowLoc = withLocal (nth ls b) λ (v : Value). push (toLocal id b kind ∷ [])
+  borrowLoc = withLocal (nth ls b) λ (v : Value). push (refer true (toLocal id b kind) ∷ [])
 
   -- ReadRef pushes the number that a reference leads to; WriteRef takes a number, then a reference, and writes it there
   abbrev pub readRef : Outcome
@@ -194,11 +194,11 @@ module _ (b d kind others : ℕ) (vs : List Value) (id p i : ℕ) (ops : List Va
       two vs λ (v r : Value). withNumber v λ (x : ℕ). numberAt (lead r) λ (y : ℕ).
       next (state (writeFrames (frame id p (i + 1) ops ls ∷ fs) r (num x)) (writeRecords rs r (num x)) st n)
 
-  -- BorrowFld: b is type times 8 plus field
+  -- BorrowFld: b is type times 8 plus field; what is borrowed through a read-only reference is read-only
   abbrev pub borrowFld : Outcome
   borrowFld =
       one vs λ (r : Value). recordAt (lead r) λ (a : ℕ) (fields : List Value).
-      fieldReference a (b / 8) (b % 8) (nth fields (b % 8)) λ (w : Value). push (w ∷ [])
+      fieldReference a (b / 8) (b % 8) (nth fields (b % 8)) λ (w : Ref). push (refer (writable r) w ∷ [])
 
   -- Pack makes a record of type b of what it took; Unpack breaks one up and pushes its fields
   abbrev pub pack : Outcome
@@ -217,7 +217,7 @@ module _ (b d kind others : ℕ) (vs : List Value) (id p i : ℕ) (ops : List Va
   moveFrom = one vs λ (w : Value). withNumber w λ (a : ℕ). underKey (findKey st b a) (stopped noSuchKey) λ (r : ℕ). pushWithStore (obj r b ∷ []) (dropKey st b a)
 
   abbrev pub borrowGlobal : Outcome
-  borrowGlobal = one vs λ (w : Value). withNumber w λ (a : ℕ). underKey (findKey st b a) (stopped noSuchKey) λ (r : ℕ). push (toRecord r b ∷ [])
+  borrowGlobal = one vs λ (w : Value). withNumber w λ (a : ℕ). underKey (findKey st b a) (stopped noSuchKey) λ (r : ℕ). push (refer true (toRecord r b) ∷ [])
 
   abbrev pub exists : Outcome
   exists = one vs λ (w : Value). withNumber w λ (a : ℕ). underKey (findKey st b a) (push (num 0 ∷ [])) λ (r : ℕ). push (num 1 ∷ [])
@@ -239,13 +239,17 @@ module _ (b d kind others : ℕ) (vs : List Value) (id p i : ℕ) (ops : List Va
   abbrev pub op : Outcome
   op = two vs λ (v w : Value). withNumber v λ (x : ℕ). withNumber w λ (y : ℕ). calculated (calculation b x y)
 
+  -- Freeze: the same reference, read-only
+  abbrev pub freeze : Outcome
+  freeze = one vs λ (v : Value). withReference v λ (r : Ref). push (refer false r ∷ [])
+
   -- by opcode
   unfoldable pub actions : List Outcome
   actions =
       pop ∷ loadConst ∷ mvLoc ∷ cpLoc ∷ stLoc ∷ borrowLoc ∷ readRef ∷ writeRef ∷ borrowFld ∷ pack
-      ∷ unpack ∷ moveTo ∷ moveFrom ∷ borrowGlobal ∷ exists ∷ call ∷ ret ∷ branch ∷ branchCond ∷ op ∷ []
+      ∷ unpack ∷ moveTo ∷ moveFrom ∷ borrowGlobal ∷ exists ∷ call ∷ ret ∷ branch ∷ branchCond ∷ op ∷ freeze ∷ []
 
--- the kind of the top operand, which Pop takes
+-- the kind of the top operand
 abbrev pub topKind : List Value → ℕ
 topKind [] = number
 topKind (v ∷ ops) = valueKind v

@@ -6,7 +6,7 @@ use mathlib.Core.Option.{Option, none, some}
 use lib.Dec.{ltb}
 use lib.ListN.{getElem? as nth}
 use Rattle.table.specs.Format.{maxTypes}
-use Rattle.semantics.specs.Machine.{Value, num, obj, toLocal, toField, toRecord, Cell, gone, here, Entry, entry, Outcome, next, finished, stopped, stuck}
+use Rattle.semantics.specs.Machine.{Value, num, obj, refer, Cell, gone, here, Entry, entry, Outcome, next, finished, stopped, stuck}
 use Rattle.semantics.specs.Ascii.{ascii}
 use Rattle.semantics.specs.History.{Base, base, Event, moment, ended, nothing, lastBase}
 
@@ -34,9 +34,7 @@ abbrev pub values : (ℕ → List ℕ) → List Value → List ℕ
 values nested [] = []
 values nested (num n ∷ vs) = spaced (decimal n) ++ values nested vs
 values nested (obj id y ∷ vs) = spaced (ascii "(" ++ decimal y ++ nested id ++ ascii ")") ++ values nested vs
-values nested (toLocal f l k ∷ vs) = values nested vs
-values nested (toField id y j ∷ vs) = values nested vs
-values nested (toRecord id y ∷ vs) = values nested vs
+values nested (refer w r ∷ vs) = values nested vs
 
 unfoldable pub fieldsText : ℕ → List Cell → ℕ → List ℕ
 fieldsText zero rs id = []

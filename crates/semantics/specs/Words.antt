@@ -2,7 +2,7 @@
 use Prim.Native.Nat.{ℕ, zero, suc, _+_}
 use mathlib.Core.Path.{_≡_}
 use mathlib.Core.Bool.{Bool, true, cond, _&&_}
-use mathlib.Core.List.{List, []}
+use mathlib.Core.List.{List}
 use mathlib.Core.Logic.{_⊎_}
 use mathlib.Core.Option.{Option, some}
 use lib.Dec.{eqb}
@@ -16,7 +16,7 @@ use Rattle.table.specs.Procedures.{procedureRow}
 use Rattle.table.specs.Flags.{isGuarded}
 use Rattle.declarations.specs.Program.{fieldKinds}
 use Rattle.reach.specs.Reach.{Mem}
-use Rattle.semantics.specs.Machine.{Value, num, toField, Cell, gone, here, Entry, entry, Frame, frame}
+use Rattle.semantics.specs.Machine.{Value, num, refer, toField, Cell, gone, here, Entry, entry, Frame, frame}
 
 -- Rows. How many types and procedures there are, and the row of type y, the y-th of kind 2; `procedureRow` is that of a procedure
 abbrev pub typeCount : List ℕ → ℕ
@@ -61,9 +61,9 @@ bodyOf t p = procedureAt t (procedureRow t p)
 abbrev pub instructionRow : List ℕ → ℕ → ℕ → ℕ
 instructionRow t p i = bodyOf t p .code + i
 
--- a reference to a guarded field: one made by BorrowFld of that field, moved or copied since, stale or not
+-- a writable reference to a guarded field: one made by BorrowFld of that field, moved or copied since, stale or not
 abbrev pub GuardedReference : List ℕ → Value → Type 0
-GuardedReference t v = (id y j : ℕ) × (v ≡ toField id y j) × (guardedField t y j ≡ true)
+GuardedReference t v = (id y j : ℕ) × (v ≡ refer true (toField id y j)) × (guardedField t y j ≡ true)
 
 -- what a frame holds: its operands and full locals
 pub data Holds : Frame → Value → Type 0 where

@@ -2,7 +2,7 @@
 use Prim.Native.Nat.{ℕ, _+_, _-_, _/_, _%_, _<_, _≤_}
 use mathlib.Core.Path.{_≡_, refl}
 use mathlib.Core.Bool.{Bool, true, false, cond}
-use mathlib.Core.List.{List, []}
+use mathlib.Core.List.{List}
 use native.Mathlib.Decide.{decLt}
 use native.Mathlib.Omega.{arith}
 use borrow.Author.Tests.{eqb-true, lt-ltb, le-leb, lt-leb}
@@ -167,4 +167,5 @@ module _ (cs : List Operand) (s : State) where
       ▸ calm refl refl refl refl
       ▸ branches b (topAt cs s 0)
       ▸ closes (operated b (topAt cs s 1) (topAt cs s 0))
+      ▸ calm refl refl refl refl
       ▸ tt) (λ a. stays broken refl)

@@ -8,7 +8,7 @@ use Rattle.table.specs.declared.index.ProcedureEntry.{ProcedureEntry}
 use Rattle.declarations.specs.Program.{localKind, localCount, parametersEnd}
 use Rattle.state.specs.declared.Operand.{Operand}
 use Rattle.state.specs.declared.frames.State.{State}
-use Rattle.state.specs.Frames.{goneTo}
+use Rattle.state.specs.Frames.{goneTo, goneOn}
 use Rattle.frame.specs.Turning.{Turning, after, broken, ends}
 use Rattle.frame.specs.Operations.{opOf}
 use Rattle.frame.specs.Stack.{poppedBy, constOf, moveOf, copyOf, storeOf, borrowOf}
@@ -42,6 +42,7 @@ module _ (b d kind fields parameters count results : ℕ) (cs : List Operand) (s
       ∷ after (goneTo s b) cs
       ∷ after (branchOf cs s b) cs
       ∷ opOf cs s b
+      ∷ after (goneOn s) cs
       ∷ []
 
 unfoldable pub turnOf : List ℕ → Row → ProcedureEntry → TypeEntry → ProcedureEntry → List Operand → State → Turning

@@ -45,6 +45,8 @@ pub fn step(
         format::BRANCH => s.go_to(b),
         format::BRANCH_COND => frame::control::branch_cond(s, cells, b),
         format::OP => frame::operations::op(s, cells, b),
+        // A cell does not tell whether a reference is read-only: the judge has seen that it is not written through.
+        format::FREEZE => s.next(),
         format::PAST_OPCODES..=255 => s.stopped(stops::BROKEN),
     }
 }

@@ -116,6 +116,7 @@ pub fn counts_of(
         format::BRANCH => Counts { takes: 0, gives: 0 },
         format::BRANCH_COND => Counts { takes: 1, gives: 0 },
         format::OP => Counts { takes: 2, gives: 1 },
+        format::FREEZE => Counts { takes: 1, gives: 1 },
         format::PAST_OPCODES..=255 => Counts { takes: 0, gives: 0 },
     }
 }

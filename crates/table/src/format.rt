@@ -27,8 +27,12 @@ pub const NUMBER_REFERENCE: u8 = 2;
 
 pub const RECORD_REFERENCE: u8 = 3;
 
+pub const NUMBER_READER: u8 = 4;
+
+pub const RECORD_READER: u8 = 5;
+
 // The first number that is no sort.
-pub const PAST_SORTS: u8 = 4;
+pub const PAST_SORTS: u8 = 6;
 
 // Opcodes.
 pub const POP: u8 = 0;
@@ -71,8 +75,10 @@ pub const BRANCH_COND: u8 = 18;
 
 pub const OP: u8 = 19;
 
+pub const FREEZE: u8 = 20;
+
 // The first number that is no opcode, and the first that is no operation of Op.
-pub const PAST_OPCODES: u8 = 20;
+pub const PAST_OPCODES: u8 = 21;
 
 pub const PAST_OPS: u16 = 4;
 

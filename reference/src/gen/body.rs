@@ -38,6 +38,7 @@ enum Way {
     Pack,
     MoveFrom,
     Global,
+    Freeze,
 }
 
 #[derive(Clone, Copy, Debug)]
@@ -45,6 +46,8 @@ enum Statement {
     Assign,
     Drop,
     Write,
+    Look,
+    Show,
     Call,
     If,
     Count,
@@ -146,12 +149,14 @@ impl Body<'_> {
         self.plan.types[usize::from(of)].module == self.module
     }
 
-    /// Fields of own types whose sort, borrowed, is the wanted one.
+    /// Fields of own types that borrow to the wanted sort: guarded ones freely if that is read-only.
     fn own_fields(&self, wanted: Sort, marked_ok: bool) -> Vec<(u16, u16)> {
         let mut found = Vec::new();
         for of in self.own_types() {
             for (number, field) in self.plan.types[usize::from(of)].fields.iter().enumerate() {
-                if field.sort.borrowed() == Some(wanted) && (marked_ok || !field.guarded) {
+                let writable = field.sort.borrowed();
+                let fits = writable == Some(wanted) && (marked_ok || !field.guarded);
+                if fits || writable.and_then(Sort::frozen) == Some(wanted) {
                     found.push((of, number as u16));
                 }
             }
@@ -184,7 +189,8 @@ impl Body<'_> {
     fn value(&mut self, sort: Sort, depth: usize, marked_ok: bool) -> Option<bool> {
         let ways = self.ways(sort, depth, marked_ok);
         let way = self.rng.weighted(&ways)?;
-        self.go_way(way, sort, depth.saturating_sub(1))
+        let leads_deeper = !matches!(way, Way::Freeze);
+        self.go_way(way, sort, depth.saturating_sub(leads_deeper.into()))
     }
 
     fn ways(&self, sort: Sort, depth: usize, marked_ok: bool) -> Vec<(usize, Way)> {
@@ -212,12 +218,14 @@ impl Body<'_> {
                     ways.push((1, Way::Global));
                 }
             }
+            Sort::NumberView | Sort::RecordView(_) => ways.push((3, Way::Freeze)),
         }
         if depth > 0 {
             ways.extend(self.own_fields(sort, marked_ok).into_iter().map(|(of, field)| (3, Way::Field(of, field))));
         }
         if depth > 0 || sort.is_record() {
-            ways.extend(self.callable_for(sort, depth > 0).into_iter().map(|number| (1, Way::Call(number))));
+            let weight = if sort.is_view() { 5 } else { 1 };
+            ways.extend(self.callable_for(sort, depth > 0).into_iter().map(|number| (weight, Way::Call(number))));
         }
         ways
     }
@@ -225,7 +233,7 @@ impl Body<'_> {
     fn number_ways(&self, ways: &mut Vec<(usize, Way)>, depth: usize) {
         ways.push((3, Way::Const));
         if depth > 0 {
-            ways.push((2, Way::Read));
+            ways.push((2 + 2 * self.full(Sort::NumberView, true).len(), Way::Read));
             ways.push((3, Way::Arith));
             ways.extend(self.own_types().into_iter().map(|of| (1, Way::Exists(of))));
         }
@@ -244,9 +252,11 @@ impl Body<'_> {
                 Some(std::mem::replace(&mut slot.marked, false))
             }
             Way::Field(owner, number) => {
-                self.value(Sort::RecordRef(owner as u8), depth, false)?;
+                let of = owner as u8;
+                let through = if sort.is_view() { Sort::RecordView(of) } else { Sort::RecordRef(of) };
+                self.value(through, depth, false)?;
                 self.emit(field(owner, number), 1, 1)?;
-                Some(self.plan.types[usize::from(owner)].fields[usize::from(number)].guarded)
+                Some(!sort.is_view() && self.plan.types[usize::from(owner)].fields[usize::from(number)].guarded)
             }
             _ => self.go_unmarked(way, sort, depth).map(|()| false),
         }
@@ -265,8 +275,18 @@ impl Body<'_> {
             }
             Way::Local(local) => self.emit(borrow(local), 0, 1),
             Way::Read => {
-                self.value(Sort::NumberRef, depth, true)?;
+                let chance = if self.full(Sort::NumberView, true).is_empty() { 30 } else { 75 };
+                let from = if self.rng.chance(chance) { Sort::NumberView } else { Sort::NumberRef };
+                self.value(from, depth, true)?;
                 self.emit(read(), 1, 1)
+            }
+            Way::Freeze => {
+                let writable = match sort {
+                    Sort::RecordView(of) => Sort::RecordRef(of),
+                    _ => Sort::NumberRef,
+                };
+                self.value(writable, depth, true)?;
+                self.emit(freeze(), 1, 1)
             }
             Way::Arith => {
                 self.value(Sort::Number, depth, false)?;
@@ -393,6 +413,8 @@ impl Body<'_> {
             (5, Statement::Assign),
             (1, Statement::Drop),
             (3, Statement::Write),
+            (1, Statement::Look),
+            (2, Statement::Show),
             (3, Statement::Call),
             (if nesting > 0 { 3 } else { 0 }, Statement::If),
             (if nesting > 0 { 1 } else { 0 }, Statement::Count),
@@ -419,7 +441,20 @@ impl Body<'_> {
                 self.value(Sort::NumberRef, 2, true)?;
                 self.emit(write(), 2, 0)
             }
-            Statement::Call => self.call_statement(),
+            Statement::Look => {
+                self.value(Sort::NumberView, 3, true)?;
+                self.emit(read(), 1, 1)?;
+                self.consume(Sort::Number, true)
+            }
+            Statement::Show => {
+                let takes_view = |number: usize| self.plan.procs[number].params.iter().any(|sort| sort.is_view());
+                let callable = self.callable(takes_view);
+                self.call_statement(&callable)
+            }
+            Statement::Call => {
+                let callable = self.callable(|_| true);
+                self.call_statement(&callable)
+            }
             Statement::If => self.branch(nesting - 1),
             Statement::Count => self.count(nesting - 1),
             Statement::Repeat => self.repeat(nesting - 1),
@@ -450,7 +485,7 @@ impl Body<'_> {
 
     /// Gives a reference on from local to local, or borrows again through one.
     fn reborrow(&mut self) -> Option<()> {
-        let refs = self.locals_with(|sort, _| matches!(sort, Sort::NumberRef | Sort::RecordRef(_)));
+        let refs = self.locals_with(|sort, _| sort.is_reference());
         let local = (!refs.is_empty()).then(|| self.rng.pick(&refs))?;
         let marked = self.value(self.sorts[usize::from(local)], 3, true)?;
         self.store(local, marked)
@@ -468,9 +503,8 @@ impl Body<'_> {
         self.consume(self.sorts[usize::from(local)], false)
     }
 
-    fn call_statement(&mut self) -> Option<()> {
-        let callable = self.callable(|_| true);
-        let number = (!callable.is_empty()).then(|| self.rng.pick(&callable))?;
+    fn call_statement(&mut self, callable: &[u16]) -> Option<()> {
+        let number = (!callable.is_empty()).then(|| self.rng.pick(callable))?;
         self.call(number, 1)?;
         let results = self.plan.procs[usize::from(number)].results.clone();
         results.into_iter().rev().try_for_each(|sort| self.consume(sort, true))
@@ -667,9 +701,12 @@ impl Body<'_> {
             self.emit(mv(local as u16), 0, 1)?;
             if self.sorts[local].is_record() {
                 self.emit(st(local as u16), 1, 0)?;
-            } else {
-                self.emit(pop(), 1, 0)?;
+                continue;
             }
+            if self.sorts[local].frozen().is_some() && self.rng.chance(40) {
+                self.emit(freeze(), 1, 1)?;
+            }
+            self.emit(pop(), 1, 0)?;
         }
         self.emit_jump(jump(0)).map(drop)
     }

@@ -6,9 +6,10 @@ use super::plan_faults::put_in_plan;
 use super::rng::Rng;
 use super::row_faults::{bad_length, put_in_rows};
 use super::structured::{self, SMALL};
+use super::view_faults::{self, Family, FAMILIES};
 use super::wild::{self, Flavour};
 use crate::program::Sort;
-use crate::row::write_rows;
+use crate::row::{write_rows, Row};
 
 /// A table meant to be refused with `number`, 1 to 14.
 pub fn table(rng: &mut Rng, number: u32) -> Vec<u8> {
@@ -31,18 +32,65 @@ pub fn table(rng: &mut Rng, number: u32) -> Vec<u8> {
     bytes
 }
 
-/// A table with two or three faults of different numbers.
+/// A table with a fault of read-only references. Of leaks every other one is mended: then it is accepted.
+pub fn table_with_views(rng: &mut Rng, family: Family) -> Vec<u8> {
+    let mut plan = if rng.chance(20) { tangled(rng, &[Flavour::Leaks]) } else { base(rng) };
+    match family {
+        Family::Given | Family::Returned => {
+            let (number, frozen) = (if family == Family::Given { 13 } else { 14 }, rng.chance(50));
+            view_faults::add_pair(&mut plan, rng, number, frozen);
+        }
+        _ => view_faults::put_in_plan(&mut plan, rng, family),
+    }
+    let mut rows = plan.rows();
+    view_faults::put_in_rows(&mut rows, rng, family);
+    write_rows(&rows)
+}
+
+#[derive(Clone, Copy)]
+enum Fault {
+    Refusal(u32),
+    Views(Family),
+}
+
+impl Fault {
+    /// A fault whose refusal is `lowest` or a higher one.
+    fn new(rng: &mut Rng, lowest: u32) -> Fault {
+        if rng.chance(65) {
+            return Fault::Refusal(rng.within(lowest as usize, 14) as u32);
+        }
+        let families: Vec<Family> =
+            FAMILIES.iter().filter(|(number, _)| *number >= lowest).map(|&(_, family)| family).collect();
+        Fault::Views(rng.pick(&families))
+    }
+
+    fn put_in_plan(self, plan: &mut Plan, rng: &mut Rng) {
+        match self {
+            Fault::Refusal(number) => put_in_plan(plan, rng, number),
+            Fault::Views(family) => view_faults::put_in_plan(plan, rng, family),
+        }
+    }
+
+    fn put_in_rows(self, rows: &mut Vec<Row>, rng: &mut Rng) {
+        match self {
+            Fault::Refusal(number) => put_in_rows(rows, rng, number),
+            Fault::Views(family) => view_faults::put_in_rows(rows, rng, family),
+        }
+    }
+}
+
+/// A table with two or three faults.
 pub fn table_of_many(rng: &mut Rng) -> Vec<u8> {
     let flavours = [Flavour::Locals, Flavour::Records, Flavour::Leaks];
     let mut plan = if rng.chance(40) { tangled(rng, &flavours) } else { base(rng) };
     let lowest = rng.pick(&[2, 5, 7, 9, 11]);
-    let numbers: Vec<u32> = (0..rng.within(2, 3)).map(|_| rng.within(lowest, 14) as u32).collect();
-    for &number in &numbers {
-        put_in_plan(&mut plan, rng, number);
+    let faults: Vec<Fault> = (0..rng.within(2, 3)).map(|_| Fault::new(rng, lowest)).collect();
+    for fault in &faults {
+        fault.put_in_plan(&mut plan, rng);
     }
     let mut rows = plan.rows();
-    for &number in &numbers {
-        put_in_rows(&mut rows, rng, number);
+    for fault in &faults {
+        fault.put_in_rows(&mut rows, rng);
     }
     let mut bytes = write_rows(&rows);
     if rng.chance(3) {
@@ -59,7 +107,7 @@ fn tangled(rng: &mut Rng, flavours: &[Flavour]) -> Plan {
 /// A small good table, often with a module that has something of everything.
 fn base(rng: &mut Rng) -> Plan {
     let mut plan = structured::plan(rng, SMALL);
-    if rng.chance(50) {
+    if rng.chance(33) {
         add_sampler(&mut plan, rng);
     }
     plan
@@ -102,9 +150,20 @@ fn add_sampler(plan: &mut Plan, rng: &mut Rng) {
         load(1),
         exists(outer),
         pop(),
+        cp(6),
+        read(),
+        pop(),
+        cp(8),
+        field(outer, 0),
+        field(inner, 0),
+        st(6),
+        cp(3),
+        freeze(),
+        st(7),
         ret(),
     ];
     let mut params = vec![Sort::Number, Sort::NumberRef, Sort::Record(inside), Sort::RecordRef(inside)];
     params.extend([Sort::RecordRef(outside), Sort::Record(outside)]);
+    params.extend([Sort::NumberView, Sort::RecordView(inside), Sort::RecordView(outside)]);
     plan.add_proc(ProcPlan { module, public: rng.chance(50), params, code, ..ProcPlan::default() });
 }

@@ -143,10 +143,62 @@ pub enum Id {
     PutNote,
     /// address
     NoteGet,
+    /// address: a read-only reference to the coin's first number.
+    Weight,
+    /// read-only reference to a coin: one to its first number.
+    WeightOf,
+    /// value, read-only reference: reads it.
+    Label,
+    /// read-only reference: gives it back.
+    Pass,
+    /// read-only reference to a coin: gives it back.
+    PassCoin,
+    /// value: gives a read-only reference to its own local.
+    LendFrozen,
+    /// address: the user reads a number of the bank's through a reference that it is given.
+    ShowLabel,
+    /// address: the same through one that it asked for.
+    ReadWeight,
+    /// value: the user hands a read-only reference to its coin on, and reads the one that comes back.
+    WeighOwn,
+    /// value: the same after the coin was broken up.
+    WeighBroken,
+    /// address: borrows through read-only references.
+    BoxWeight,
+    /// address, value: reads through a frozen reference what was written through the writable one.
+    SeeWrite,
+    /// address, value: the same in two modules.
+    WatchWrite,
+    /// value: reads a frozen local of a frame that has returned.
+    ReadLent,
+    /// value: the same in a new frame where the old one was.
+    LabelLent,
+    /// value: stale references are frozen, moved, copied, passed, returned and popped.
+    HandleFrozen,
+    /// value: the same with references to a coin broken up.
+    HandleFrozenCoin,
+    /// Early: procedures above with each reference frozen before it is kept.
+    EarlyStaleField,
+    EarlyStaleReused,
+    EarlyStaleGlobal,
+    EarlyStaleReplaced,
+    EarlyStaleRecordLocal,
+    EarlyRefilledRecord,
+    EarlyMovedAway,
+    EarlyStaleMovedAway,
+    EarlyStaleFrame,
+    EarlyStaleEmpty,
+    EarlyRefilled,
+    /// Late: procedures above with each reference frozen after it is taken from its local.
+    LateStaleField,
+    LateStaleGlobal,
+    LateStaleRecordLocal,
+    LateStaleFrame,
+    LateStaleEmpty,
 }
 
 /// In the order of their numbers.
-pub const ALL: [Id; 64] = [
+pub const ALL: [Id; 97] = [
     Id::Mint,
     Id::Get,
     Id::Set,
@@ -211,12 +263,47 @@ pub const ALL: [Id; 64] = [
     Id::Carry,
     Id::PutNote,
     Id::NoteGet,
+    Id::Weight,
+    Id::WeightOf,
+    Id::Label,
+    Id::Pass,
+    Id::PassCoin,
+    Id::LendFrozen,
+    Id::ShowLabel,
+    Id::ReadWeight,
+    Id::WeighOwn,
+    Id::WeighBroken,
+    Id::BoxWeight,
+    Id::SeeWrite,
+    Id::WatchWrite,
+    Id::ReadLent,
+    Id::LabelLent,
+    Id::HandleFrozen,
+    Id::HandleFrozenCoin,
+    Id::EarlyStaleField,
+    Id::EarlyStaleReused,
+    Id::EarlyStaleGlobal,
+    Id::EarlyStaleReplaced,
+    Id::EarlyStaleRecordLocal,
+    Id::EarlyRefilledRecord,
+    Id::EarlyMovedAway,
+    Id::EarlyStaleMovedAway,
+    Id::EarlyStaleFrame,
+    Id::EarlyStaleEmpty,
+    Id::EarlyRefilled,
+    Id::LateStaleField,
+    Id::LateStaleGlobal,
+    Id::LateStaleRecordLocal,
+    Id::LateStaleFrame,
+    Id::LateStaleEmpty,
 ];
 
 const N: Sort = Sort::Number;
 const R: Sort = Sort::NumberRef;
+const V: Sort = Sort::NumberView;
 const C: Sort = Sort::Record(COIN as u8);
 const CR: Sort = Sort::RecordRef(COIN as u8);
+const CV: Sort = Sort::RecordView(COIN as u8);
 
 /// A call before procedures have numbers.
 const fn to(id: Id) -> Code {
@@ -247,16 +334,19 @@ type Writer = fn(Id) -> ProcPlan;
 
 /// The procedure, with calls that name an `Id`.
 fn procedure(id: Id) -> ProcPlan {
-    let groups: [(Id, Writer); 6] = [
+    let groups: [(Id, Writer); 9] = [
         (Id::Uncrate, store_procedure),
         (Id::Hold9, many_records),
         (Id::Compare, plain),
         (Id::StaleMovedAway, record_references),
         (Id::WriteUp, local_references),
         (Id::FillStop, stopping),
+        (Id::NoteGet, handed_out),
+        (Id::HandleFrozenCoin, read_only),
+        (Id::EarlyRefilled, frozen_when_kept),
     ];
     let group = groups.iter().find(|(last, _)| id <= *last);
-    group.map_or(handed_out as Writer, |(_, write)| *write)(id)
+    group.map_or(frozen_when_used as Writer, |(_, write)| *write)(id)
 }
 
 fn store_procedure(id: Id) -> ProcPlan {
@@ -491,6 +581,101 @@ fn handed_out(id: Id) -> ProcPlan {
         Id::PutNote => user(vec![N, N], vec![], vec![], vec![mv(1), pack(NOTE), mv(0), move_to(NOTE), ret()]),
         _ => user(vec![N], vec![], vec![N], vec![mv(0), global(NOTE), field(NOTE, 0), read(), ret()]),
     }
+}
+
+/// Read-only references, also in other hands.
+fn read_only(id: Id) -> ProcPlan {
+    let lend = [cp(0), to(Id::Lend), freeze(), st(1)];
+    let weigh = [mv(0), to(Id::Make), st(1), borrow(1), freeze(), to(Id::WeightOf)];
+    match id {
+        Id::Weight => bank(vec![N], vec![], vec![V], vec![mv(0), global(COIN), field(COIN, 0), freeze(), ret()]),
+        Id::WeightOf => bank(vec![CV], vec![], vec![V], vec![mv(0), field(COIN, 0), ret()]),
+        Id::Label => user(vec![N, V], vec![], vec![N], vec![mv(1), read(), ret()]),
+        Id::Pass => user(vec![V], vec![], vec![V], vec![mv(0), ret()]),
+        Id::PassCoin => user(vec![CV], vec![], vec![CV], vec![mv(0), ret()]),
+        Id::LendFrozen => user(vec![N], vec![], vec![V], vec![borrow(0), freeze(), ret()]),
+        Id::ShowLabel => {
+            let code = vec![load(1), mv(0), global(COIN), field(COIN, 0), freeze(), to(Id::Label), ret()];
+            bank(vec![N], vec![], vec![N], code)
+        }
+        Id::ReadWeight => user(vec![N], vec![], vec![N], vec![mv(0), to(Id::Weight), read(), ret()]),
+        Id::WeighOwn => {
+            let code = join(&[&weigh, &[read(), mv(1), to(Id::Break), arith(ADD), ret()]]);
+            user(vec![N], vec![C], vec![N], code)
+        }
+        Id::WeighBroken => {
+            let code = join(&[&weigh, &[st(2), mv(1), to(Id::Break), pop(), cp(2), read(), ret()]]);
+            user(vec![N], vec![C, V], vec![N], code)
+        }
+        Id::BoxWeight => {
+            let code = vec![mv(0), global(BOX), freeze(), field(BOX, 0), field(COIN, 0), read(), ret()];
+            bank(vec![N], vec![], vec![N], code)
+        }
+        Id::SeeWrite => {
+            let both = [mv(0), global(COIN), field(COIN, 0), st(2), cp(2), freeze(), st(3)];
+            let code = join(&[&both, &[mv(1), mv(2), write(), mv(3), read(), ret()]]);
+            bank(vec![N, N], vec![R, V], vec![N], code)
+        }
+        Id::WatchWrite => {
+            let code = vec![cp(0), to(Id::Weight), st(2), mv(0), mv(1), to(Id::Set), cp(2), read(), ret()];
+            user(vec![N, N], vec![V], vec![N], code)
+        }
+        Id::ReadLent => user(vec![N], vec![], vec![N], vec![mv(0), to(Id::LendFrozen), read(), ret()]),
+        Id::LabelLent => {
+            let code = vec![load(77), mv(0), to(Id::LendFrozen), to(Id::Label), ret()];
+            user(vec![N], vec![], vec![N], code)
+        }
+        Id::HandleFrozen => {
+            let handle = [cp(1), pop(), mv(1), st(1), cp(1), to(Id::Pass), st(1)];
+            let code = join(&[&lend, &handle, &[load(6), borrow(0), freeze(), to(Id::Label), ret()]]);
+            user(vec![N], vec![V], vec![N], code)
+        }
+        _ => {
+            let stale = join(&[&[cp(0), load(2), pack(COIN), st(1), borrow(1), st(2), mv(1)], &BREAK]);
+            let handle = [cp(2), freeze(), st(3), cp(3), pop(), mv(3), to(Id::PassCoin), pop(), mv(0), ret()];
+            bank(vec![N], vec![C, CR, CV], vec![N], join(&[&stale, &handle]))
+        }
+    }
+}
+
+fn frozen_when_kept(id: Id) -> ProcPlan {
+    let mut one = procedure(match id {
+        Id::EarlyStaleField => Id::StaleField,
+        Id::EarlyStaleReused => Id::StaleReused,
+        Id::EarlyStaleGlobal => Id::StaleGlobal,
+        Id::EarlyStaleReplaced => Id::StaleReplaced,
+        Id::EarlyStaleRecordLocal => Id::StaleRecordLocal,
+        Id::EarlyRefilledRecord => Id::RefilledRecord,
+        Id::EarlyMovedAway => Id::MovedAway,
+        Id::EarlyStaleMovedAway => Id::StaleMovedAway,
+        Id::EarlyStaleFrame => Id::StaleFrame,
+        Id::EarlyStaleEmpty => Id::StaleEmpty,
+        _ => Id::Refilled,
+    });
+    one.code = freeze_beside(&one, |code| if code.op == op::ST_LOC { vec![freeze(), code] } else { vec![code] });
+    one.others = one.others.iter().map(|&sort| sort.frozen().unwrap_or(sort)).collect();
+    one
+}
+
+fn frozen_when_used(id: Id) -> ProcPlan {
+    let mut one = procedure(match id {
+        Id::LateStaleField => Id::StaleField,
+        Id::LateStaleGlobal => Id::StaleGlobal,
+        Id::LateStaleRecordLocal => Id::StaleRecordLocal,
+        Id::LateStaleFrame => Id::StaleFrame,
+        _ => Id::StaleEmpty,
+    });
+    one.code = freeze_beside(&one, |code| if code.op == op::ST_LOC { vec![code] } else { vec![code, freeze()] });
+    one
+}
+
+/// The code with each move or copy to and from a local of a reference rewritten. There are no jumps in it.
+fn freeze_beside(one: &ProcPlan, rewrite: impl Fn(Code) -> Vec<Code>) -> Vec<Code> {
+    let sorts = one.locals();
+    let on_reference = |code: Code| {
+        matches!(code.op, op::MV_LOC | op::CP_LOC | op::ST_LOC) && sorts[usize::from(code.b)].is_reference()
+    };
+    one.code.iter().flat_map(|&code| if on_reference(code) { rewrite(code) } else { vec![code] }).collect()
 }
 
 /// A table of some kit procedures and the number of each.

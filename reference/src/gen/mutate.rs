@@ -2,7 +2,7 @@
 
 use super::plan::Code;
 use super::rng::Rng;
-use crate::row::{kind, Row};
+use crate::row::{kind, op, sort, Row};
 
 /// One change somewhere in the table.
 pub fn mutate(rows: &mut Vec<Row>, rng: &mut Rng) {
@@ -25,7 +25,7 @@ pub fn mutate(rows: &mut Vec<Row>, rng: &mut Rng) {
                 rows.swap(at, at + 1);
             }
         }
-        6 => with_instruction(rows, rng, |row, rng| row.a = rng.below(20) as u8),
+        6 => with_instruction(rows, rng, |row, rng| row.a = rng.below(usize::from(op::LAST) + 1) as u8),
         7 => with_instruction(rows, rng, |row, rng| row.b = rng.below(8) as u16),
         8 => with_instruction(rows, rng, |row, rng| {
             let step = 1 + rng.below(3) as u16;
@@ -45,7 +45,7 @@ fn change_byte(row: &mut Row, rng: &mut Rng) {
 /// Changes an instruction that uses its B, if there is one not far from a random row.
 fn with_instruction(rows: &mut [Row], rng: &mut Rng, change: impl Fn(&mut Row, &mut Rng)) {
     let from = rng.below(rows.len());
-    let uses_b = |row: &Row| row.kind == kind::INSTRUCTION && !matches!(row.a, 0 | 1 | 6 | 7 | 16);
+    let uses_b = |row: &Row| row.kind == kind::INSTRUCTION && op::uses_b(row.a);
     if let Some(row) = rows[from..].iter_mut().find(|row| uses_b(row)) {
         change(row, rng);
     }
@@ -57,10 +57,10 @@ fn change_sort(rows: &mut [Row], rng: &mut Rng) {
     let has_sort = |row: &Row| matches!(row.kind, kind::FIELD | kind::LOCAL | kind::RESULT);
     if let Some(row) = rows[from..].iter_mut().find(|row| has_sort(row)) {
         if rng.chance(50) {
-            row.a = rng.below(4) as u8;
-            row.b = if row.a % 2 == 0 { 0 } else { rng.below(3) as u16 };
+            row.a = rng.below(usize::from(sort::LAST) + 1) as u8;
+            row.b = if sort::uses_b(row.a) { rng.below(3) as u16 } else { 0 };
         } else {
-            row.b = if row.a % 2 == 0 { 0 } else { row.b.wrapping_add(1) };
+            row.b = if sort::uses_b(row.a) { row.b.wrapping_add(1) } else { 0 };
         }
     }
 }

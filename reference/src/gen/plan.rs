@@ -95,6 +95,9 @@ pub mod asm {
     pub const fn arith(which: u16) -> Code {
         plain(op::OP, which)
     }
+    pub const fn freeze() -> Code {
+        plain(op::FREEZE, 0)
+    }
 }
 
 #[derive(Clone, Copy, Debug)]
@@ -193,7 +196,7 @@ pub fn type_row() -> Row {
 }
 
 pub fn field_row(sort: Sort, guarded: bool) -> Row {
-    let (a, b) = sort_bytes(sort);
+    let (a, b) = sort.bytes();
     Row { kind: kind::FIELD, a, b, c: guarded.into(), d: 0 }
 }
 
@@ -202,22 +205,13 @@ pub fn proc_row(public: bool) -> Row {
 }
 
 pub fn local_row(sort: Sort, param: bool) -> Row {
-    let (a, b) = sort_bytes(sort);
+    let (a, b) = sort.bytes();
     Row { kind: kind::LOCAL, a, b, c: param.into(), d: 0 }
 }
 
 pub fn result_row(sort: Sort) -> Row {
-    let (a, b) = sort_bytes(sort);
+    let (a, b) = sort.bytes();
     Row { kind: kind::RESULT, a, b, c: 0, d: 0 }
-}
-
-fn sort_bytes(sort: Sort) -> (u8, u16) {
-    match sort {
-        Sort::Number => (0, 0),
-        Sort::Record(of) => (1, of.into()),
-        Sort::NumberRef => (2, 0),
-        Sort::RecordRef(of) => (3, of.into()),
-    }
 }
 
 /// Row of a call list: a call.

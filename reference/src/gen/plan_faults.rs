@@ -21,7 +21,7 @@ pub fn put_in_plan(plan: &mut Plan, rng: &mut Rng, number: u32) {
 // 7
 
 /// A procedure that has instructions.
-fn some_proc<'p>(plan: &'p mut Plan, rng: &mut Rng) -> Option<&'p mut ProcPlan> {
+pub fn some_proc<'p>(plan: &'p mut Plan, rng: &mut Rng) -> Option<&'p mut ProcPlan> {
     let found: Vec<usize> = (0..plan.procs.len()).filter(|&number| !plan.procs[number].code.is_empty()).collect();
     if found.is_empty() {
         return None;
@@ -69,6 +69,8 @@ fn unfit_local(plan: &mut Plan, rng: &mut Rng) {
     let of = rng.below(types) as u16;
     let unfit = match sorts[local] {
         Sort::Number => rng.pick(&[[cp(x), read()], [cp(x), field(of, 0)], [cp(x), unpack(of)], [cp(x), st(y)]]),
+        Sort::NumberView => rng.pick(&[[borrow(x), pop()], [cp(x), write()], [cp(x), freeze()], [cp(x), st(y)]]),
+        Sort::RecordView(_) => rng.pick(&[[borrow(x), pop()], [cp(x), read()], [cp(x), freeze()], [cp(x), st(y)]]),
         Sort::NumberRef => rng.pick(&[[borrow(x), pop()], [cp(x), exists(of)], [cp(x), jump_if(0)], [cp(x), st(y)]]),
         Sort::Record(_) => rng.pick(&[[cp(x), st(x)], [mv(x), pop()], [mv(x), unpack(of)], [mv(x), st(y)]]),
         Sort::RecordRef(_) => rng.pick(&[[borrow(x), pop()], [cp(x), read()], [cp(x), field(of, 0)], [cp(x), st(y)]]),
@@ -84,11 +86,13 @@ fn change_sort(one: &mut ProcPlan, rng: &mut Rng, types: usize) {
     }
     let at = rng.below(sorts.len());
     let of = rng.below(types.max(1)) as u8;
-    *sorts[at] = match rng.below(if types > 0 { 4 } else { 2 }) {
+    *sorts[at] = match rng.below(if types > 0 { 6 } else { 3 }) {
         0 => Sort::Number,
         1 => Sort::NumberRef,
-        2 => Sort::Record(of),
-        _ => Sort::RecordRef(of),
+        2 => Sort::NumberView,
+        3 => Sort::Record(of),
+        4 => Sort::RecordRef(of),
+        _ => Sort::RecordView(of),
     };
 }
 

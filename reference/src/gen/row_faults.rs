@@ -4,7 +4,7 @@ use super::mutate::put_in;
 use super::plan::{asm::*, field_row, local_row, module_row, proc_row, result_row, type_row};
 use super::rng::Rng;
 use crate::program::Sort;
-use crate::row::{kind, limit, op, Row};
+use crate::row::{kind, limit, op, sort, Row};
 
 pub fn put_in_rows(rows: &mut Vec<Row>, rng: &mut Rng, number: u32) {
     match number {
@@ -121,8 +121,8 @@ fn wrong_value(rows: &mut [Row], rng: &mut Rng) {
         0 => {
             let most = match row.kind {
                 kind::TYPE => 0,
-                kind::LOCAL | kind::RESULT => 3,
-                kind::INSTRUCTION => 19,
+                kind::LOCAL | kind::RESULT => sort::LAST,
+                kind::INSTRUCTION => op::LAST,
                 _ => 1,
             };
             row.a = if rng.chance(50) { most + 1 } else { rng.within(usize::from(most) + 1, 255) as u8 };
@@ -139,7 +139,7 @@ fn wrong_value(rows: &mut [Row], rng: &mut Rng) {
     }
 }
 
-/// A misplaced guard, a parameter after another local, a wrong Op or opcode 20.
+/// A misplaced guard, a parameter after another local, a wrong Op or opcode.
 fn special_wrong_value(rows: &mut [Row], rng: &mut Rng) -> bool {
     let which = rng.below(6);
     if which == 5 {
@@ -160,7 +160,7 @@ fn special_wrong_value(rows: &mut [Row], rng: &mut Rng) -> bool {
     match which {
         0..=2 => found[at].c = 1,
         3 => found[at].b = rng.pick(&[4, 5, 256, 65_535]),
-        _ => found[at].a = rng.pick(&[20, 21, 22, 255]),
+        _ => found[at].a = rng.pick(&[op::LAST + 1, op::LAST + 2, op::LAST + 3, 255]),
     }
     true
 }
@@ -212,7 +212,7 @@ fn no_end(rows: &mut Vec<Row>, rng: &mut Rng) {
 fn naming(row: &Row) -> Option<usize> {
     match (row.kind, row.a) {
         (kind::FIELD, 1) => Some(0),
-        (kind::LOCAL | kind::RESULT, 1 | 3) => Some(1),
+        (kind::LOCAL | kind::RESULT, a) if sort::uses_b(a) => Some(1),
         (kind::INSTRUCTION, 2..=5) => Some(2),
         (kind::INSTRUCTION, 8) => Some(3),
         (kind::INSTRUCTION, 9..=14) => Some(4),
@@ -261,6 +261,6 @@ fn procedure_counts(rows: &[Row], at: usize) -> (u16, u16) {
 
 /// A blind instruction somewhere, for mutated tables.
 pub fn stray_instruction(rows: &mut Vec<Row>, rng: &mut Rng) {
-    let code = rng.pick(&[pop(), load(1), ret(), jump(0), read()]);
+    let code = rng.pick(&[pop(), load(1), ret(), jump(0), read(), freeze()]);
     put_in(rows, rng, code);
 }

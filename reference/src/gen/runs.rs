@@ -4,8 +4,8 @@ use super::kit::{Id, Kit, ALL};
 use super::plan::{argument_row, asm::call, call_row, Plan, ProcPlan};
 use super::rng::Rng;
 use super::tables;
-use crate::machine::{Machine, Outcome, Stop};
-use crate::program::{Program, Sort};
+use crate::machine::{Machine, Outcome, Stop, Watch};
+use crate::program::{Instr, Program, Sort};
 use crate::row::{limit, write_rows, Row};
 
 #[derive(Clone, Debug)]
@@ -23,18 +23,22 @@ pub fn case(seed: u64, number: u64) -> Case {
     let rng = &mut rng;
     let mut text_len = limit::TEXT_BYTES + if rng.chance(5) { rng.below(5_000) } else { 0 };
     let (table, list) = match rng.below(100) {
-        0..=19 => random_run(rng),
-        20..=27 => tangled_run(rng),
-        28..=62 => {
+        0..=18 => random_run(rng),
+        19..=25 => tangled_run(rng),
+        26..=58 => {
             let stop = rng.within(31, 38) as u32;
             let script = script(rng, stop);
             kit_run(rng, &script)
         }
-        63..=70 => {
+        59..=65 => {
             let script = stopping_script(rng);
             kit_run(rng, &script)
         }
-        71..=78 => {
+        66..=71 => {
+            let script = showing_script(rng);
+            kit_run(rng, &script)
+        }
+        72..=78 => {
             let script = any_script(rng);
             kit_run(rng, &script)
         }
@@ -60,25 +64,51 @@ fn some_bytes(rng: &mut Rng) -> Vec<u8> {
 
 // Budgets.
 
-/// Writes calls as a list. Budgets are ample, just enough, one less, one more, or small: what is enough is found by
-/// running each call on the machine that the calls before it left.
+/// How many instructions were done each time that a Freeze came up.
+#[derive(Default)]
+struct Freezes {
+    looked: u32,
+    before: Vec<u32>,
+}
+
+impl Freezes {
+    /// A budget that is spent just before a Freeze, now and then just after it.
+    fn some_budget(&self, rng: &mut Rng) -> Option<u32> {
+        let late = u32::from(rng.chance(25));
+        (!self.before.is_empty()).then(|| rng.pick(&self.before) + late)
+    }
+}
+
+impl Watch for Freezes {
+    fn comes_up(&mut self, machine: &Machine) {
+        if machine.upcoming() == Instr::Freeze {
+            self.before.push(self.looked);
+        }
+        self.looked += 1;
+    }
+}
+
+/// Writes calls as a list. Budgets are ample, just enough, one less, one more, spent at a Freeze, or small: what is
+/// enough is found by running each call on the machine that the calls before it left.
 fn list_of(rng: &mut Rng, program: &Program, calls: &[(u16, Vec<u64>)]) -> Vec<u8> {
     let mut machine = Machine::new(program);
     let mut rows = Vec::new();
     for (procedure, arguments) in calls {
         let number = usize::from(*procedure);
-        let (outcome, done) = machine.clone().call(number, arguments, limit::BUDGET);
+        let mut freezes = Freezes::default();
+        let (outcome, done) = machine.clone().call_watched(number, arguments, limit::BUDGET, &mut freezes);
         let needed = match outcome {
             Outcome::Done(_) => done,
             Outcome::Stopped { stop: Stop::Budget, .. } => rng.within(1, 500) as u32,
             // The stopping instruction must come up with budget left.
             Outcome::Stopped { .. } => done + 1,
         };
-        let budget = match rng.below(20) {
+        let budget = match rng.below(22) {
             0..=10 => limit::BUDGET,
             11..=14 => needed,
             15 | 16 => needed.saturating_sub(1),
             17 | 18 => needed + 1,
+            19 | 20 => freezes.some_budget(rng).unwrap_or(limit::BUDGET),
             _ => 1 + rng.below(12) as u32,
         };
         let budget = budget.clamp(1, limit::BUDGET);
@@ -195,7 +225,7 @@ fn script(rng: &mut Rng, stop: u32) -> Script {
         }
         35 => {
             for _ in 0..rng.within(1, 3) {
-                let id = rng.pick(&STALE);
+                let id = if rng.chance(45) { rng.pick(&STALE_FROZEN) } else { rng.pick(&STALE) };
                 calls.push((Id::Mint, vec![at, 6]));
                 calls.push((id, vec![at]));
             }
@@ -236,6 +266,30 @@ const STALE: [Id; 21] = [
     Id::StaleReused,
     Id::StaleReplaced,
     Id::StaleFrameReused,
+];
+
+const STALE_FROZEN: [Id; 21] = [
+    Id::WeighBroken,
+    Id::ReadLent,
+    Id::LabelLent,
+    Id::HandleFrozen,
+    Id::HandleFrozenCoin,
+    Id::EarlyStaleField,
+    Id::EarlyStaleReused,
+    Id::EarlyStaleGlobal,
+    Id::EarlyStaleReplaced,
+    Id::EarlyStaleRecordLocal,
+    Id::EarlyRefilledRecord,
+    Id::EarlyMovedAway,
+    Id::EarlyStaleMovedAway,
+    Id::EarlyStaleFrame,
+    Id::EarlyStaleEmpty,
+    Id::EarlyRefilled,
+    Id::LateStaleField,
+    Id::LateStaleGlobal,
+    Id::LateStaleRecordLocal,
+    Id::LateStaleFrame,
+    Id::LateStaleEmpty,
 ];
 
 fn arithmetic(rng: &mut Rng) -> Script {
@@ -314,6 +368,28 @@ fn stopping_script(rng: &mut Rng) -> Script {
     calls
 }
 
+/// Numbers are read through read-only references in both modules, among calls that write them.
+fn showing_script(rng: &mut Rng) -> Script {
+    let mut calls = vec![(Id::Mint, vec![0, 10]), (Id::Mint, vec![1, 20])];
+    for _ in 0..rng.within(2, 6) {
+        let (at, value) = (address(rng), some_number(rng));
+        calls.push(match rng.below(10) {
+            0 => (Id::ShowLabel, vec![at]),
+            1 => (Id::ReadWeight, vec![at]),
+            2 => (Id::WeighOwn, vec![value]),
+            3 => (Id::WeighBroken, vec![value]),
+            4 => (Id::BoxWeight, vec![at]),
+            5 => (Id::SeeWrite, vec![at, value]),
+            6 => (Id::WatchWrite, vec![at, value]),
+            7 => (Id::HandleFrozen, vec![value]),
+            8 => (Id::BoxUp, vec![at]),
+            _ => (Id::Set, vec![at, value]),
+        });
+    }
+    calls.push((Id::ReadWeight, vec![address(rng)]));
+    calls
+}
+
 fn any_script(rng: &mut Rng) -> Script {
     let wanted: Vec<Id> = (0..rng.within(2, 6)).map(|_| rng.pick(&ALL)).chain([Id::Mint]).collect();
     let entries = Kit::new(rng, &wanted).entries();
@@ -337,10 +413,12 @@ fn longest_list(rng: &mut Rng) -> (Vec<u8>, Vec<u8>) {
 
 // Lists that are refused.
 
+/// Procedures with a parameter or a result that is a reference.
+const NOT_OF_NUMBERS: [Id; 4] = [Id::Lend, Id::Value, Id::Weight, Id::Label];
+
 fn bad_list(rng: &mut Rng) -> (Vec<u8>, Vec<u8>) {
     let script = stopping_script(rng);
-    let kit =
-        Kit::new(rng, &[&[Id::Lend, Id::Value][..], &script.iter().map(|&(id, _)| id).collect::<Vec<_>>()].concat());
+    let kit = Kit::new(rng, &[&NOT_OF_NUMBERS[..], &script.iter().map(|&(id, _)| id).collect::<Vec<_>>()].concat());
     let mut plan = kit.plan.clone();
     if rng.chance(30) {
         hide_some(&mut plan, rng);
@@ -386,7 +464,7 @@ fn spoil(rng: &mut Rng, rows: &mut Vec<Row>, kit: &Kit) {
         5 => rows.insert(0, argument_row(1)),
         6 => rows[chosen].b = kit.plan.procs.len() as u16 + rng.below(3) as u16,
         7 | 12 | 13 => rows[chosen].c = rng.pick(&[0, 65_536, 65_536, 65_537, 1 << 31]),
-        8 => rows[chosen].b = kit.number(rng.pick(&[Id::Lend, Id::Value])),
+        8 => rows[chosen].b = kit.number(rng.pick(&NOT_OF_NUMBERS)),
         9 => rows.insert(chosen + 1, argument_row(5)),
         10 => {
             rows.remove(at);

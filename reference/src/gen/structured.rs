@@ -20,9 +20,9 @@ pub const MIDDLE: Size = Size { modules: 3, types: 3, procs: 3, statements: 4, m
 pub const LARGE: Size = Size { modules: 5, types: 3, procs: 4, statements: 8, most_code: 160 };
 
 pub fn some_size(rng: &mut Rng) -> Size {
-    match rng.below(30) {
-        0..=23 => SMALL,
-        24..=28 => MIDDLE,
+    match rng.below(40) {
+        0..=35 => SMALL,
+        36..=38 => MIDDLE,
         _ => LARGE,
     }
 }
@@ -61,7 +61,8 @@ fn add_types(plan: &mut Plan, rng: &mut Rng, module: usize, size: Size) {
     }
 }
 
-/// Makers and droppers of the module's types, so that other modules can have their records, then anything.
+/// Makers and droppers of the module's types, so that other modules can have their records, procedures that show
+/// numbers, then anything.
 fn add_procs(plan: &mut Plan, rng: &mut Rng, module: usize, size: Size) {
     let own: Vec<usize> = (0..plan.types.len()).filter(|&of| plan.types[of].module == module).collect();
     for of in own {
@@ -74,10 +75,39 @@ fn add_procs(plan: &mut Plan, rng: &mut Rng, module: usize, size: Size) {
             plan.add_proc(ProcPlan { module, public, params: vec![record], results, ..ProcPlan::default() });
         }
     }
+    add_showing(plan, rng, module);
     for _ in 0..rng.within(1, size.procs) {
         let entry = rng.chance(50);
         let procedure = some_proc(plan, rng, module, entry);
         plan.add_proc(procedure);
+    }
+}
+
+/// Procedures that give read-only references to numbers of the module's types, and some that are given read-only
+/// references: to a number, or to a record that another module shows numbers of.
+fn add_showing(plan: &mut Plan, rng: &mut Rng, module: usize) {
+    for of in 0..plan.types.len() {
+        let view = Sort::RecordView(of as u8);
+        let own = plan.types[of].module == module;
+        let takes_view = |one: &ProcPlan| one.public && one.params == [view];
+        if own && rng.chance(20) {
+            let from = rng.pick(&[view, view, Sort::RecordRef(of as u8), Sort::Number]);
+            let (params, results) = (vec![from], vec![Sort::NumberView]);
+            plan.add_proc(ProcPlan { module, public: rng.chance(85), params, results, ..ProcPlan::default() });
+        } else if !own && plan.procs.iter().any(takes_view) && rng.chance(60) {
+            let results = vec![rng.pick(&[Sort::Number, Sort::Number, Sort::NumberView, view])];
+            plan.add_proc(ProcPlan {
+                module,
+                public: rng.chance(70),
+                params: vec![view],
+                results,
+                ..ProcPlan::default()
+            });
+        }
+    }
+    if rng.chance(20) {
+        let (params, results) = (vec![Sort::NumberView], vec![Sort::Number]);
+        plan.add_proc(ProcPlan { module, public: rng.chance(85), params, results, ..ProcPlan::default() });
     }
 }
 
@@ -88,24 +118,27 @@ fn some_proc(plan: &Plan, rng: &mut Rng, module: usize, entry: bool) -> ProcPlan
             .map(|_| if numbers { Sort::Number } else { some_sort(plan, rng, module, results) })
             .collect()
     };
-    ProcPlan {
-        module,
-        public: entry || rng.chance(50),
-        params: sorts(rng, 3, entry, false),
-        others: sorts(rng, 5, false, false),
-        results: sorts(rng, 2, entry, true),
-        code: Vec::new(),
-    }
+    let public = entry || rng.chance(50);
+    let params = sorts(rng, 3, entry, false);
+    let others = sorts(rng, 5, false, false);
+    let mut results = sorts(rng, 2, entry, true);
+    // A reference that was given goes back read-only.
+    let back = params.iter().rev().find_map(|&sort| if sort.is_view() { Some(sort) } else { sort.frozen() });
+    results.extend(back.filter(|_| rng.chance(30)));
+    ProcPlan { module, public, params, others, results, code: Vec::new() }
 }
 
 fn some_sort(plan: &Plan, rng: &mut Rng, module: usize, result: bool) -> Sort {
     let of = if plan.types.is_empty() { None } else { Some(rng.below(plan.types.len())) };
     let usable = of.is_some_and(|of| has_maker_and_dropper(plan, module, of));
-    match (rng.below(10), of) {
+    match (rng.below(14), of) {
         (0..=2, Some(of)) if usable => Sort::Record(of as u8),
         (3..=4, Some(of)) if !result || plan.types[of].module == module => Sort::RecordRef(of as u8),
         (5, _) => Sort::NumberRef,
         (6, _) if !result => Sort::NumberRef,
+        (7..=8, Some(of)) if !result || plan.types[of].module == module => Sort::RecordView(of as u8),
+        (9, _) => Sort::NumberView,
+        (10, _) if !result => Sort::NumberView,
         _ => Sort::Number,
     }
 }

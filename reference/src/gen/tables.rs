@@ -3,7 +3,7 @@
 use super::rng::Rng;
 use super::structured::{self, some_size};
 use super::wild::{self, Flavour};
-use super::{faults, limits, mutate, row_faults};
+use super::{faults, limits, mutate, row_faults, view_faults};
 use crate::row::{kind, write_rows, Row};
 
 /// Every so many tables one of the tables at the limits.
@@ -19,10 +19,14 @@ pub fn table(seed: u64, number: u64) -> Vec<u8> {
     let mut rng = Rng::stream(seed, 1, number);
     match rng.below(100) {
         0..=16 => accepted(&mut rng),
-        17..=34 => mutated(&mut rng),
-        35..=91 => {
+        17..=33 => mutated(&mut rng),
+        34..=82 => {
             let number = rng.pick(&TARGETS);
             faults::table(&mut rng, number)
+        }
+        83..=91 => {
+            let (_, family) = rng.pick(&view_faults::FAMILIES);
+            faults::table_with_views(&mut rng, family)
         }
         92..=97 => faults::table_of_many(&mut rng),
         _ => noise(&mut rng),

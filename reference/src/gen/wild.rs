@@ -11,15 +11,21 @@ pub enum Flavour {
     Locals,
     /// Records are moved about.
     Records,
-    /// References to guarded fields are handed about; every local is full.
+    /// References to guarded fields are handed about and frozen; every local is full.
     Leaks,
     /// One branch after another, each with or without an effect: very many states of the locals together.
     Broad,
 }
 
 const COIN: u16 = 0;
+/// Takes a reference.
 const SINK: u16 = 0;
+/// Takes a reference and gives it back.
 const PASS: u16 = 1;
+/// The same with a read-only one.
+const SHOW: u16 = 2;
+/// Takes a read-only reference to a coin and gives one to its first number.
+const LOOK: u16 = 3;
 
 pub fn plan(rng: &mut Rng, flavour: Flavour) -> Plan {
     let trusted = matches!(flavour, Flavour::Leaks | Flavour::Broad) || rng.chance(50);
@@ -29,19 +35,17 @@ pub fn plan(rng: &mut Rng, flavour: Flavour) -> Plan {
     }
     let first_guarded = trusted && rng.chance(85);
     plan.add_type(0, &[(Sort::Number, first_guarded), (Sort::Number, trusted && !first_guarded)]);
-    plan.add_proc(ProcPlan {
-        public: rng.chance(50),
-        params: vec![Sort::NumberRef],
-        code: vec![mv(0), pop(), ret()],
-        ..ProcPlan::default()
-    });
-    plan.add_proc(ProcPlan {
-        public: rng.chance(50),
-        params: vec![Sort::NumberRef],
-        results: vec![Sort::NumberRef],
-        code: vec![mv(0), ret()],
-        ..ProcPlan::default()
-    });
+    let view = [Sort::NumberView];
+    let helpers: [(Sort, &[Sort], &[Code]); 4] = [
+        (Sort::NumberRef, &[], &[mv(0), pop(), ret()]),
+        (Sort::NumberRef, &[Sort::NumberRef], &[mv(0), ret()]),
+        (Sort::NumberView, &view, &[mv(0), ret()]),
+        (Sort::RecordView(COIN as u8), &view, &[mv(0), field(COIN, 0), ret()]),
+    ];
+    for (param, results, code) in helpers {
+        let (params, results, code) = (vec![param], results.to_vec(), code.to_vec());
+        plan.add_proc(ProcPlan { public: rng.chance(50), params, results, code, ..ProcPlan::default() });
+    }
     for _ in 0..rng.within(1, 2) {
         let one = if flavour == Flavour::Broad { broad(rng) } else { Maze::procedure(rng, flavour) };
         let maze = plan.add_proc(one);
@@ -57,11 +61,16 @@ pub fn plan(rng: &mut Rng, flavour: Flavour) -> Plan {
 fn driver(plan: &Plan, maze: u16) -> ProcPlan {
     let inside = &plan.procs[usize::from(maze)];
     let mut code = vec![load(4), load(6), pack(COIN), st(2)];
-    code.extend(inside.params.iter().map(|sort| match sort {
-        Sort::Number => cp(0),
-        Sort::NumberRef => borrow(1),
-        _ => borrow(2),
-    }));
+    for sort in &inside.params {
+        code.push(match sort {
+            Sort::Number => cp(0),
+            Sort::NumberRef | Sort::NumberView => borrow(1),
+            _ => borrow(2),
+        });
+        if sort.is_view() {
+            code.push(freeze());
+        }
+    }
     code.push(call(maze));
     code.resize(code.len() + inside.results.len(), pop());
     code.extend([mv(2), unpack(COIN), ret()]);
@@ -76,10 +85,11 @@ fn driver(plan: &Plan, maze: u16) -> ProcPlan {
 }
 
 /// A row of branches over one small effect each. Locals: 0 a reference to a coin, 1 a number, then references to
-/// numbers, all full, then numbers, empty.
+/// numbers, all full, then numbers and one read-only reference, empty.
 fn broad(rng: &mut Rng) -> ProcPlan {
     let refs = rng.within(4, 8) as u16;
-    let numbers = rng.within(2, 6) as u16;
+    let numbers = rng.within(2, 5) as u16;
+    let view = 2 + refs + numbers;
     let mut code = Vec::new();
     for local in 2..2 + refs {
         code.extend([borrow(1), st(local)]);
@@ -87,10 +97,11 @@ fn broad(rng: &mut Rng) -> ProcPlan {
     for _ in 0..rng.within(8, 18) {
         let (one, other) = (2 + rng.below(refs.into()) as u16, 2 + rng.below(refs.into()) as u16);
         let number = 2 + refs + rng.below(numbers.into()) as u16;
-        let effect = match rng.below(8) {
+        let effect = match rng.below(9) {
             0 | 1 => vec![cp(0), field(COIN, rng.below(2) as u16), st(one)],
             2 => vec![borrow(1), st(one)],
             3 | 4 => vec![cp(one), st(other)],
+            5 => vec![cp(one), freeze(), st(view)],
             _ => vec![load(1), st(number)],
         };
         let over = code.len() + 2 + effect.len();
@@ -100,20 +111,28 @@ fn broad(rng: &mut Rng) -> ProcPlan {
     for _ in 0..rng.below(4) {
         let one = 2 + rng.below(refs.into()) as u16;
         let number = 2 + refs + rng.below(numbers.into()) as u16;
-        code.extend(match rng.below(5) {
+        code.extend(match rng.below(7) {
             0 => vec![cp(one), call(SINK)],
             1 | 2 => vec![borrow(1), st(one), cp(one), call(SINK)],
             3 => vec![load(1), st(number), cp(number), pop()],
+            4 => vec![cp(one), freeze(), call(SHOW), pop()],
+            5 => vec![cp(one), freeze(), st(view), cp(view), read(), pop()],
             _ => vec![cp(number), pop()],
         });
     }
     if rng.chance(30) {
         code.extend([cp(1), jump_if(2 * refs)]);
     }
-    let results = if rng.chance(30) { vec![Sort::NumberRef] } else { vec![] };
-    code.extend(results.iter().map(|_| cp(2)));
+    let results = rng.pick(&[&[][..], &[], &[], &[Sort::NumberRef], &[Sort::NumberView]]).to_vec();
+    for sort in &results {
+        code.push(cp(2));
+        if sort.is_view() {
+            code.push(freeze());
+        }
+    }
     code.push(ret());
-    let others = [vec![Sort::NumberRef; refs.into()], vec![Sort::Number; numbers.into()]].concat();
+    let others = [vec![Sort::NumberRef; refs.into()], vec![Sort::Number; numbers.into()], vec![Sort::NumberView]];
+    let others = others.concat();
     let params = vec![Sort::RecordRef(COIN as u8), Sort::Number];
     ProcPlan { module: 0, public: true, params, others, results, code }
 }
@@ -126,6 +145,8 @@ struct Maze<'a> {
     numbers: Vec<u16>,
     refs: Vec<u16>,
     record_refs: Vec<u16>,
+    views: Vec<u16>,
+    record_views: Vec<u16>,
     coins: Vec<u16>,
     code: Vec<Code>,
 }
@@ -133,18 +154,24 @@ struct Maze<'a> {
 impl Maze<'_> {
     fn procedure(rng: &mut Rng, flavour: Flavour) -> ProcPlan {
         let coin = COIN as u8;
-        let params = match rng.below(3) {
+        let params = match rng.below(5) {
             0 => vec![Sort::RecordRef(coin), Sort::Number],
             1 => vec![Sort::RecordRef(coin), Sort::Number, Sort::NumberRef],
+            2 => vec![Sort::RecordRef(coin), Sort::Number, Sort::NumberView],
+            3 => vec![Sort::RecordView(coin), Sort::RecordRef(coin), Sort::Number],
             _ => vec![Sort::Number, Sort::RecordRef(coin), Sort::NumberRef],
         };
         let mut others = vec![Sort::Number; rng.within(1, 2)];
         others.resize(others.len() + rng.within(1, 4), Sort::NumberRef);
+        others.resize(others.len() + rng.within(1, 2), Sort::NumberView);
         others.resize(others.len() + rng.below(2), Sort::RecordRef(coin));
+        others.resize(others.len() + rng.below(2), Sort::RecordView(coin));
         let coins = if flavour == Flavour::Records { rng.within(1, 3) } else { rng.below(2) };
         others.resize(others.len() + coins, Sort::Record(coin));
-        let reference = Sort::NumberRef;
-        let results = rng.pick(&[&[][..], &[reference], &[Sort::Number, reference], &[reference, reference]]).to_vec();
+        let (reference, view) = (Sort::NumberRef, Sort::NumberView);
+        let results: [&[Sort]; 6] =
+            [&[], &[reference], &[Sort::Number, reference], &[reference, reference], &[view], &[reference, view]];
+        let results = rng.pick(&results).to_vec();
         let locals = [&params[..], &others[..]].concat();
         let of_sort = |sort: Sort| -> Vec<u16> {
             (0..locals.len()).filter(|&local| locals[local] == sort).map(|local| local as u16).collect()
@@ -156,6 +183,8 @@ impl Maze<'_> {
             numbers: of_sort(Sort::Number),
             refs: of_sort(Sort::NumberRef),
             record_refs: of_sort(Sort::RecordRef(coin)),
+            views: of_sort(Sort::NumberView),
+            record_views: of_sort(Sort::RecordView(coin)),
             coins: of_sort(Sort::Record(coin)),
             code: Vec::new(),
         };
@@ -187,6 +216,12 @@ impl Maze<'_> {
         }
         for local in self.record_refs.clone() {
             self.put(&[cp(record_ref), st(local)]);
+        }
+        for local in self.views.clone() {
+            self.put(&[borrow(number), freeze(), st(local)]);
+        }
+        for local in self.record_views.clone() {
+            self.put(&[cp(record_ref), freeze(), st(local)]);
         }
     }
 
@@ -225,23 +260,35 @@ impl Maze<'_> {
 
     fn give_back(&mut self) {
         for sort in self.results.clone() {
-            let (numbers, refs) = (self.rng.pick(&self.numbers), self.rng.pick(&self.refs));
-            let push = match sort {
-                Sort::Number => load(2),
-                _ => match self.rng.below(4) {
-                    0 => borrow(numbers),
-                    1 if self.flavour == Flavour::Locals => mv(refs),
-                    _ => cp(refs),
-                },
-            };
-            self.put(&[push]);
+            match sort {
+                Sort::Number => self.put(&[load(2)]),
+                Sort::NumberView if self.rng.chance(40) => {
+                    let view = self.rng.pick(&self.views);
+                    self.put(&[cp(view)]);
+                }
+                Sort::NumberView => {
+                    self.push_ref();
+                    self.put(&[freeze()]);
+                }
+                _ => self.push_ref(),
+            }
         }
         self.put(&[ret()]);
     }
 
+    fn push_ref(&mut self) {
+        let (number, one) = (self.rng.pick(&self.numbers), self.rng.pick(&self.refs));
+        let push = match self.rng.below(4) {
+            0 => borrow(number),
+            1 if self.flavour == Flavour::Locals => mv(one),
+            _ => cp(one),
+        };
+        self.put(&[push]);
+    }
+
     /// Some instructions that leave the operands as they were.
     fn item(&mut self, nesting: usize) {
-        match (self.rng.below(20), self.flavour) {
+        match (self.rng.below(24), self.flavour) {
             (0..=3, Flavour::Locals) => self.number_item(),
             (0..=6, Flavour::Records) => self.coin_item(),
             (0..=4, Flavour::Leaks) => self.borrow_item(),
@@ -250,6 +297,8 @@ impl Maze<'_> {
             (12 | 13, _) => self.hand_on_item(),
             (14, _) if nesting > 0 => self.held_item(),
             (15..=17, _) => self.call_item(),
+            (18..=20, _) => self.freeze_item(),
+            (21, _) => self.view_item(),
             _ => self.ref_item(),
         }
     }
@@ -272,6 +321,38 @@ impl Maze<'_> {
             3 => self.put(&[load(5), cp(one), write()]),
             4 if self.flavour == Flavour::Locals => self.put(&[mv(one), pop()]),
             _ => self.put(&[cp(one), pop()]),
+        }
+    }
+
+    /// Freezes a reference, marked or not.
+    fn freeze_item(&mut self) {
+        let (one, view) = (self.rng.pick(&self.refs), self.rng.pick(&self.views));
+        let record_ref = self.rng.pick(&self.record_refs);
+        let number = self.rng.below(2) as u16;
+        match self.rng.below(7) {
+            0 | 1 => self.put(&[cp(one), freeze(), st(view)]),
+            2 => self.put(&[cp(one), freeze(), call(SHOW), st(view)]),
+            3 => self.put(&[cp(record_ref), field(COIN, number), freeze(), st(view)]),
+            4 => self.put(&[cp(record_ref), freeze(), field(COIN, number), st(view)]),
+            5 => self.put(&[cp(record_ref), freeze(), call(LOOK), st(view)]),
+            _ => self.put(&[cp(one), cp(one), freeze(), call(SHOW), pop(), pop()]),
+        }
+    }
+
+    /// Uses a read-only reference.
+    fn view_item(&mut self) {
+        let (one, other) = (self.rng.pick(&self.views), self.rng.pick(&self.views));
+        if !self.record_views.is_empty() && self.rng.chance(40) {
+            let record_view = self.rng.pick(&self.record_views);
+            let number = self.rng.below(2) as u16;
+            return self.put(&[cp(record_view), field(COIN, number), st(one)]);
+        }
+        match self.rng.below(5) {
+            0 => self.put(&[cp(one), read(), pop()]),
+            1 => self.put(&[cp(one), call(SHOW), st(other)]),
+            2 if self.flavour == Flavour::Locals => self.put(&[mv(one), st(other)]),
+            3 if self.flavour == Flavour::Locals => self.put(&[mv(one), pop()]),
+            _ => self.put(&[cp(one), st(other)]),
         }
     }
 

@@ -9,6 +9,7 @@ pub use reference::gen::plan::{argument_row as argument, call_row as call_of};
 
 pub const N: Sort = Sort::Number;
 pub const R: Sort = Sort::NumberRef;
+pub const V: Sort = Sort::NumberView;
 
 pub const ADD: u16 = 0;
 pub const SUB: u16 = 1;
@@ -23,6 +24,9 @@ pub fn rec(of: u8) -> Sort {
 }
 pub fn rec_ref(of: u8) -> Sort {
     Sort::RecordRef(of)
+}
+pub fn rec_view(of: u8) -> Sort {
+    Sort::RecordView(of)
 }
 
 pub fn trusted() -> Row {
@@ -93,6 +97,7 @@ instructions! {
     jump(to: u16);
     jump_if(to: u16);
     arith(which: u16);
+    freeze();
 }
 
 pub fn judge(rows: &[Row]) -> Result<usize, (u32, usize)> {

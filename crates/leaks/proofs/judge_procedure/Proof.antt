@@ -92,7 +92,7 @@ slice-aggregate-judge-code : tie.Need-slice-aggregate-judge-code
 slice-aggregate-judge-code c = let s = c .before .before .before .before .before in sym (ap length (filled s) ∙ marked s)
 
 judge-code-requires : tie.Need-judge-code-requires
-judge-code-requires c κs = omega (arith, limits (known (searched (c .before .before .before .before .before))))
+judge-code-requires c κs = let k = known (searched (c .before .before .before .before .before)) in (start k .pre .0, limits k .1)
 
 abbrev spread : tie.After-judge-code → tie.After-spread-marks
 spread c = c .before .before .before .before .before .before

@@ -11,7 +11,11 @@ returns c = rw (eq-eqb _ _ (c .if1 .taken))
 
 returns-2 : tie.Need-returns-2
 unfolding hasType member
-returns-2 c = rw (ne-eqb _ _ (c .if1 .left), or-false)
+returns-2 c = rw (ne-eqb _ _ (c .before .if1 .left), eq-eqb _ _ (c .if2 .taken))
+
+returns-3 : tie.Need-returns-3
+unfolding hasType member
+returns-3 c = rw (ne-eqb _ _ (c .before .if1 .left), ne-eqb _ _ (c .if2 .left), or-false)
 
 pub has-type-spec : {M : Type 1} → statement M
-has-type-spec = tie.close (tie.spec returns returns-2)
+has-type-spec = tie.close (tie.spec returns returns-2 returns-3)

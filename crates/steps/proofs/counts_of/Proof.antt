@@ -89,7 +89,11 @@ unfolding effects
 returns-20 c = listed _ _ _ _ _ 19 (c .match .keys20) refl refl
 
 returns-21 : tie.Need-returns-21
-returns-21 c = unlisted _ _ _ _ _ (above pastOpcodes _ (c .match .rest))
+unfolding effects
+returns-21 c = listed _ _ _ _ _ 20 (c .match .keys21) refl refl
+
+returns-22 : tie.Need-returns-22
+returns-22 c = unlisted _ _ _ _ _ (above pastOpcodes _ (c .match .rest))
 
 pub counts-of-spec : {M : Type 1} → statement M
-counts-of-spec = tie.close (tie.spec (λ c κs. search needs) (λ c κs. search needs) (λ c κs. search needs) (λ c κs. search needs) (λ c κs. search needs) returns returns-2 returns-3 returns-4 returns-5 returns-6 returns-7 returns-8 returns-9 returns-10 returns-11 returns-12 returns-13 returns-14 returns-15 returns-16 returns-17 returns-18 returns-19 returns-20 returns-21)
+counts-of-spec = tie.close (tie.spec (λ c κs. search needs) (λ c κs. search needs) (λ c κs. search needs) (λ c κs. search needs) (λ c κs. search needs) returns returns-2 returns-3 returns-4 returns-5 returns-6 returns-7 returns-8 returns-9 returns-10 returns-11 returns-12 returns-13 returns-14 returns-15 returns-16 returns-17 returns-18 returns-19 returns-20 returns-21 returns-22)

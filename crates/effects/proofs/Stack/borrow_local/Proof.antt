@@ -12,7 +12,7 @@ use Rattle.effects.proofs.Stack.borrow_local.Tie as tie
 -- a kind that is no reference leaves room for one
 add-push : tie.Need-add-push
 unfolding isReference
-add-push c = omega (arith, leb-false 2 (c .before .before .before .local-kind .result % 4) (sym (c .before .before .is-reference .ensures) ∙ c .before .if1 .left))
+add-push c = omega (arith, leb-false 2 (c .before .before .before .local-kind .result % 8) (sym (c .before .before .is-reference .ensures) ∙ c .before .if1 .left))
 
 pub borrow-local-spec : {M : Type 1} → statement M
 unfolding applied takenAll pushedAll

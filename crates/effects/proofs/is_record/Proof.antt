@@ -1,8 +1,0 @@
-use borrow.Author.Needs.{needs}
-use Rattle.declarations.specs.Program.{isRecord}
-use Rattle.effects.proofs.is_record.Statement.{statement}
-use Rattle.effects.proofs.is_record.Tie as tie
-
-pub is-record-spec : {M : Type 1} → statement M
-unfolding isRecord
-is-record-spec = tie.close (tie.spec (λ c. search needs))
