@@ -22,9 +22,22 @@ pub enum Work {
     Ends,
     /// Short calls of the list that stop.
     Stops,
+    /// Short calls of the list that change records and end.
+    Changes,
+    /// Short calls of the list that change records and stop, so that what they changed is put back.
+    Undone,
 }
 
-pub const WORKS: [Work; 6] = [Work::Arithmetic, Work::Field, Work::Store, Work::Call, Work::Ends, Work::Stops];
+pub const WORKS: [Work; 8] = [
+    Work::Arithmetic,
+    Work::Field,
+    Work::Store,
+    Work::Call,
+    Work::Ends,
+    Work::Stops,
+    Work::Changes,
+    Work::Undone,
+];
 
 impl Work {
     pub fn name(self) -> &'static str {
@@ -35,18 +48,20 @@ impl Work {
             Work::Call => "Call and Ret",
             Work::Ends => "short calls (a call)",
             Work::Stops => "stopped calls (a call)",
+            Work::Changes => "changing calls (a call)",
+            Work::Undone => "undone calls (a call)",
         }
     }
 
     /// Whether the list's calls are short, so that they and not their instructions are counted.
     fn is_short(self) -> bool {
-        matches!(self, Work::Ends | Work::Stops)
+        matches!(self, Work::Ends | Work::Stops | Work::Changes | Work::Undone)
     }
 
     /// Records and entries that the work has at most at a time, beyond those that it finds.
     fn needs(self) -> (usize, usize) {
         match self {
-            Work::Field => (1, 0),
+            Work::Field | Work::Changes | Work::Undone => (1, 0),
             Work::Store => (1, 1),
             _ => (0, 0),
         }
@@ -141,7 +156,7 @@ fn add_module(plan: &mut Plan) -> usize {
 fn add_work(plan: &mut Plan, work: Work) -> u16 {
     let module = add_module(plan);
     let of = match work {
-        Work::Field | Work::Store => plan.add_type(module, &[(N, false)]),
+        Work::Field | Work::Store | Work::Changes | Work::Undone => plan.add_type(module, &[(N, false)]),
         _ => 0,
     };
     let mut others = Vec::new();
@@ -172,6 +187,8 @@ fn add_work(plan: &mut Plan, work: Work) -> u16 {
             results = vec![N];
             vec![load(1), load(2), arith(SUB), ret()]
         }
+        Work::Changes => vec![load(5), pack(of), unpack(of), pop(), ret()],
+        Work::Undone => vec![load(5), pack(of), unpack(of), load(6), arith(SUB), pop(), ret()],
     };
     plan.add_proc(ProcPlan { module, public: true, others, results, code, ..ProcPlan::default() })
 }

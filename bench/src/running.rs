@@ -221,7 +221,7 @@ pub fn speed() {
         }
     }
     println!(
-        "{:22} {:12} {:>6} {:>8} {:>8} {:>7} {:>10} {:>9} {:>7}",
+        "{:23} {:12} {:>6} {:>8} {:>8} {:>7} {:>10} {:>9} {:>7}",
         "loop", "setting", "rows", "records", "entries", "frames", "proved ns", "plain ns", "ratio"
     );
     for (work, setting, course, best) in &courses {
@@ -230,7 +230,7 @@ pub fn speed() {
         let Most { records, entries, frames } = most_of(course);
         let (work, setting, rows, ratio) = (work.name(), setting.name(), course.table.len() / 16, proved / plain);
         println!(
-            "{work:22} {setting:12} {rows:>6} {records:>8} {entries:>8} {frames:>7} \
+            "{work:23} {setting:12} {rows:>6} {records:>8} {entries:>8} {frames:>7} \
              {proved:>10.1} {plain:>9.1} {ratio:>7.2}"
         );
     }
