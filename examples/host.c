@@ -90,7 +90,11 @@ int main(void)
     n = load("examples/leaking.bin");
     expect("leaking module", table, n, 14, 15);
     table[1] = 0;
-    expect("guard in a guest", table, n, 4, 2);
+    expect("guard in a guest", table, n, 19, 2);
+    table[2 * 16 + 4] = 2;
+    expect("guard of 2", table, n, 18, 2);
+    table[2 * 16 + 15] = 1;
+    expect("guard of 2 and an unused byte", table, n, 4, 2);
     expect("no bytes", table, 0, 1, 0);
     expect("null, no bytes", NULL, 0, 1, 0);
     memset(table, 0, sizeof table);

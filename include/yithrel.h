@@ -14,20 +14,31 @@ extern "C" {
  *
  * The answer is number * 2^32 + value. Number 0: accepted, and value is the number of rows. Else number is the refusal, and value its row:
  *
+ * length
  *    1  length 0, not a multiple of 16, or over 32,768 (row 0)
+ * rows
  *    2  kind unknown, row 0 not a module, or kind not allowed after the row above
  *    3  a count limit passed by this row
- *    4  unused byte not zero, value not allowed, or guard misplaced
+ *    4  an unused byte is not zero
+ *   18  a value not allowed: A out of range, C over 1 in a field or local, a parameter after another local, opcode or Op too large
+ *   19  a guard misplaced: on a record field, or in a guest
+ * names
  *    5  procedure without instructions, or the last is neither Ret nor Branch (the procedure's row)
  *    6  a named type, field, local, procedure or target does not exist, or a field's type is not lower
+ * operands
  *    7  operand missing or of the wrong kind, or local unfit
  *    8  more than 16 operands
  *    9  operands left after a block's last row, or under the results at Ret
  *   10  type or private procedure of another module
+ * locals
  *   11  MvLoc, CpLoc or BorrowLoc on a local that some walk leaves empty
  *   12  StLoc over a record, or Ret with a record left, on some walk
+ * leaks
  *   13  marked reference given to a Call
  *   14  marked reference returned
+ *
+ * The passes stand in their order: each goes over the whole table, and only if those before it accept. A pass tells the lowest row that it refuses, and of
+ * several causes on that row the first in this list.
  *
  * Nothing may write the table while the call runs, and buffers lent to one call may not overlap.
  *
@@ -48,7 +59,7 @@ uint64_t yithrel_judge(const uint8_t *table, size_t table_len);
  * the length of the text, which stands at the buffer's start; the bytes after it are as they were. Else number is the refusal, value its row, and the
  * buffer is as it was:
  *
- *    1 to 14  the table is refused, as by yithrel_judge
+ *    1 to 14, 18, 19  the table is refused, as by yithrel_judge
  *   15  the list is over 4,096 bytes long or no multiple of 16 (row 0); a row of unknown kind, with an unused byte that is not zero, or an argument
  *       first (its row)
  *   16  a call of no public procedure, of one with a parameter or result that is no number, with the wrong number of arguments, or with a budget

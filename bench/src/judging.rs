@@ -1,6 +1,8 @@
 //! The judge against the reference judge: in speed, on tables of several sizes, and in its answers, on made tables.
 
 use crate::proved;
+use reference::{refusal_lines, TABLE_PASSES};
+use std::collections::BTreeMap;
 use std::time::Instant;
 
 fn plain(table: &[u8]) -> u64 {
@@ -107,13 +109,18 @@ pub fn speed() {
 
 pub fn compare(seed: u64, count: usize) {
     let mut different = 0;
+    let mut verdicts: BTreeMap<u32, u64> = BTreeMap::new();
     for number in 0..count as u64 {
         let table = reference::gen::tables::table(seed, number);
-        if proved::judge(&table) != plain(&table) {
+        let expected = plain(&table);
+        *verdicts.entry((expected >> 32) as u32).or_default() += 1;
+        if proved::judge(&table) != expected {
             different += 1;
             eprintln!("table {number} of seed {seed} differs");
         }
     }
+    println!("  accepted: {}", verdicts.get(&0).unwrap_or(&0));
+    print!("{}", refusal_lines(&TABLE_PASSES, &verdicts));
     println!("{count} tables of seed {seed}: {different} different");
     std::process::exit(i32::from(different != 0));
 }

@@ -5,7 +5,7 @@ use crate::proved;
 use reference::gen::runs::{self, Case};
 use reference::machine::{Machine, Watch};
 use reference::row::limit;
-use reference::Refusal;
+use reference::{refusal_lines, Refusal, RUN_PASSES, TABLE_PASSES};
 use std::collections::BTreeMap;
 use std::hint::black_box;
 use std::time::Instant;
@@ -53,12 +53,9 @@ impl Tally {
     }
 
     fn print(&self) {
-        for (number, times) in &self.runs {
-            match number {
-                0 => println!("  run through: {times}"),
-                _ => println!("  refused {number}: {times}"),
-            }
-        }
+        println!("  run through: {}", self.runs.get(&0).unwrap_or(&0));
+        print!("{}", refusal_lines(&TABLE_PASSES, &self.runs));
+        print!("{}", refusal_lines(&RUN_PASSES, &self.runs));
         for (stop, times) in &self.calls {
             match stop {
                 0 => println!("  calls done: {times}"),

@@ -12,5 +12,6 @@ pub mod row_faults;
 pub mod runs;
 pub mod structured;
 pub mod tables;
+pub mod value_faults;
 pub mod view_faults;
 pub mod wild;

@@ -1,5 +1,5 @@
-//! The judge of bytecode tables and the stack machine of document 01, a second time: to compare the other
-//! implementation with; and a generator of inputs for both.
+//! The judge of bytecode tables and the stack machine of documents 01 and 02 (papers 1 and 2), a second time: to
+//! compare the other implementation with; and a generator of inputs for both.
 
 pub mod gen;
 pub mod list;
@@ -18,9 +18,34 @@ pub use text::split_text;
 use list::ListCall;
 use machine::Machine;
 use program::Program;
+use std::collections::BTreeMap;
 
 /// A refusal's number and its row.
 pub type Refusal = (u32, usize);
+
+/// The passes over a table in their order, each with its refusals: on one row the first of them that holds is told.
+pub const TABLE_PASSES: [(&str, &[u32]); 6] = [
+    ("length", &[1]),
+    ("rows", &[2, 3, 4, 18, 19]),
+    ("names", &[5, 6]),
+    ("operands", &[7, 8, 9, 10]),
+    ("locals", &[11, 12]),
+    ("leaks", &[13, 14]),
+];
+
+/// What a run judges after the table, in the same way.
+pub const RUN_PASSES: [(&str, &[u32]); 2] = [("list", &[15, 16]), ("buffer", &[17])];
+
+/// A line for each refusal of the passes, in their order, with how often it came; those that never came too.
+pub fn refusal_lines(passes: &[(&str, &[u32])], counts: &BTreeMap<u32, u64>) -> String {
+    let mut lines = String::new();
+    for (pass, refusals) in passes {
+        for number in *refusals {
+            lines.push_str(&format!("  {pass}, refused {number}: {}\n", counts.get(number).unwrap_or(&0)));
+        }
+    }
+    lines
+}
 
 /// Judges a table: its number of rows, or the refusal.
 pub fn judge(table: &[u8]) -> Result<usize, Refusal> {

@@ -3,7 +3,7 @@
 use reference::gen::{runs, tables};
 use reference::program::Program;
 use reference::row::{kind, op, read_rows};
-use reference::Refusal;
+use reference::{refusal_lines, Refusal, RUN_PASSES, TABLE_PASSES};
 use std::collections::BTreeMap;
 use std::io::Write;
 use std::path::Path;
@@ -128,11 +128,8 @@ fn table_lines(seed: u64, count: u64) -> String {
         showing += u64::from(program.as_ref().is_ok_and(shows));
         *verdicts.entry(program.map_or_else(|refusal| refusal.0, |_| 0)).or_default() += 1;
     }
-    let mut lines = String::new();
-    for (number, times) in verdicts {
-        let what = if number == 0 { "accepted".to_string() } else { format!("refused {number}") };
-        lines.push_str(&format!("  {what}: {times}\n"));
-    }
+    let mut lines = format!("  accepted: {}\n", verdicts.get(&0).unwrap_or(&0));
+    lines.push_str(&refusal_lines(&TABLE_PASSES, &verdicts));
     lines.push_str(&format!("  with Freeze: {freezing}\n"));
     lines.push_str(&format!("  accepted with a read-only parameter or result: {showing}\n"));
     lines
@@ -147,39 +144,33 @@ fn shows(program: &Program) -> bool {
 }
 
 fn run_lines(seed: u64, count: u64) -> String {
-    let mut ends: BTreeMap<(u8, u32), u64> = BTreeMap::new();
+    let mut refusals: BTreeMap<u32, u64> = BTreeMap::new();
+    let mut calls: BTreeMap<Option<u32>, u64> = BTreeMap::new();
+    let mut through = 0;
     for number in 0..count {
         let case = runs::case(seed, number);
-        for end in call_ends(reference::run(&case.table, &case.list, case.text_len)) {
-            *ends.entry(end).or_default() += 1;
+        match reference::run(&case.table, &case.list, case.text_len) {
+            Ok(text) => {
+                through += 1;
+                let (lines, _) = reference::split_text(&text);
+                lines.into_iter().for_each(|line| *calls.entry(stop_of(line)).or_default() += 1);
+            }
+            Err((number, _)) => *refusals.entry(number).or_default() += 1,
         }
     }
-    let mut lines = String::new();
-    for ((_, number), times) in ends {
-        let what = match number {
-            0 => "run through".to_string(),
-            1..=17 => format!("refused {number}"),
-            30 => "calls done".to_string(),
-            _ => format!("calls stopped {number}"),
-        };
-        lines.push_str(&format!("  {what}: {times}\n"));
+    let mut lines = format!("  run through: {through}\n");
+    lines.push_str(&refusal_lines(&TABLE_PASSES, &refusals));
+    lines.push_str(&refusal_lines(&RUN_PASSES, &refusals));
+    for (stop, times) in calls {
+        let what = stop.map_or("done".to_string(), |number| format!("stopped {number}"));
+        lines.push_str(&format!("  calls {what}: {times}\n"));
     }
     lines
 }
 
-/// The refusal of a run, or 0 and for each call 30 (done) or its stop.
-fn call_ends(answer: Result<Vec<u8>, Refusal>) -> Vec<(u8, u32)> {
-    let text = match answer {
-        Ok(text) => text,
-        Err((number, _)) => return vec![(0, number)],
-    };
-    let stop = |line: &[u8]| {
-        let words: Vec<&str> = std::str::from_utf8(line).unwrap_or("").split(' ').collect();
-        let stop = words.get(3).filter(|_| words.get(2) == Some(&"stop"));
-        stop.and_then(|number| number.parse().ok()).unwrap_or(30)
-    };
-    let (calls, _) = reference::split_text(&text);
-    let mut ends = vec![(0, 0)];
-    ends.extend(calls.into_iter().map(|line| (1, stop(line))));
-    ends
+/// The stop that a call's line tells, if it does not say `done`.
+fn stop_of(line: &[u8]) -> Option<u32> {
+    let words: Vec<&str> = std::str::from_utf8(line).ok()?.split(' ').collect();
+    let number = words.get(3).filter(|_| words.get(2) == Some(&"stop"))?;
+    number.parse().ok()
 }

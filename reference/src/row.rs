@@ -95,6 +95,9 @@ pub mod op {
     pub const FREEZE: u8 = 20;
     pub const LAST: u8 = FREEZE;
 
+    /// The highest B of OP.
+    pub const LAST_OP: u16 = 3;
+
     /// Whether B is used. With an opcode that is not allowed it counts as used.
     pub fn uses_b(opcode: u8) -> bool {
         !matches!(opcode, POP | LOAD_CONST | READ_REF | WRITE_REF | RET | FREEZE)
@@ -104,6 +107,37 @@ pub mod op {
     pub fn uses_d(opcode: u8) -> bool {
         opcode == LOAD_CONST || opcode > LAST
     }
+}
+
+/// The highest A allowed in a table row of this kind; a type row does not use its A.
+pub fn last_a(kind: u8) -> u8 {
+    match kind {
+        kind::TYPE => 0,
+        kind::LOCAL | kind::RESULT => sort::LAST,
+        kind::INSTRUCTION => op::LAST,
+        _ => 1,
+    }
+}
+
+/// Which of A, B, C and D a table row uses.
+#[derive(Clone, Copy, Debug, PartialEq, Eq)]
+pub struct Uses {
+    pub a: bool,
+    pub b: bool,
+    pub c: bool,
+    pub d: bool,
+}
+
+/// Kind and A tell what is used. With an A that is not allowed, what some allowed A uses counts as used.
+pub fn uses(kind: u8, a: u8) -> Uses {
+    let (b, c, d) = match kind {
+        kind::FIELD => (a != sort::NUMBER, true, false),
+        kind::LOCAL => (sort::uses_b(a), true, false),
+        kind::RESULT => (sort::uses_b(a), false, false),
+        kind::INSTRUCTION => (op::uses_b(a), false, op::uses_d(a)),
+        _ => (false, false, false),
+    };
+    Uses { a: kind != kind::TYPE, b, c, d }
 }
 
 /// Limits of document 01.
@@ -123,4 +157,44 @@ pub mod limit {
     pub const FRAMES: usize = 16;
     pub const RECORDS: usize = 128;
     pub const ENTRIES: usize = 64;
+}
+
+#[cfg(test)]
+mod tests {
+    use super::{kind::*, last_a, uses};
+
+    /// The used ones of B, C and D by name.
+    fn used(kind: u8, a: u8) -> String {
+        let uses = uses(kind, a);
+        let names = [(uses.b, 'B'), (uses.c, 'C'), (uses.d, 'D')];
+        names.iter().filter(|(used, _)| *used).map(|&(_, name)| name).collect()
+    }
+
+    #[test]
+    fn only_type_rows_leave_a_unused() {
+        for kind in MODULE..=INSTRUCTION {
+            for a in 0..=255 {
+                assert_eq!(uses(kind, a).a, kind != TYPE);
+            }
+        }
+    }
+
+    #[test]
+    fn an_a_that_is_not_allowed_uses_what_some_allowed_a_uses() {
+        for kind in MODULE..=INSTRUCTION {
+            let some = |name: char| (0..=last_a(kind)).any(|a| used(kind, a).contains(name));
+            let expected: String = "BCD".chars().filter(|&name| some(name)).collect();
+            for a in last_a(kind) + 1..=255 {
+                assert_eq!(used(kind, a), expected, "kind {kind}, A {a}");
+            }
+        }
+    }
+
+    #[test]
+    fn what_counts_as_used_beside_such_an_a() {
+        let expected = ["", "", "BC", "", "BC", "B", "BD"];
+        for (kind, expected) in (MODULE..=INSTRUCTION).zip(expected) {
+            assert_eq!(used(kind, 255), expected, "kind {kind}");
+        }
+    }
 }

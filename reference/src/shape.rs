@@ -1,6 +1,6 @@
-//! The passes "length" (1) and "rows" (2, 3, 4).
+//! The passes "length" (1) and "rows" (2, 3, 4, 18, 19).
 
-use crate::row::{kind, limit, op, sort, Row, ROW_BYTES};
+use crate::row::{kind, last_a, limit, op, sort, uses, Row, ROW_BYTES};
 use crate::Refusal;
 
 pub fn check_length(bytes: &[u8]) -> Result<(), Refusal> {
@@ -50,8 +50,14 @@ pub fn check_rows(rows: &[Row]) -> Result<Outline, Refusal> {
         if !outline.count(row, place) {
             return Err((3, place));
         }
-        if !outline.allows(row) {
+        if !unused_zero(row) {
             return Err((4, place));
+        }
+        if !outline.allows_values(row) {
+            return Err((18, place));
+        }
+        if !outline.allows_guard(row) {
+            return Err((19, place));
         }
         above = Some(row.kind);
     }
@@ -101,14 +107,17 @@ impl Outline {
                 });
                 self.procedures.len() <= limit::PROCEDURES
             }
-            _ => self.count_in_procedure(row.kind),
+            _ => self.count_in_procedure(row),
         }
     }
 
-    fn count_in_procedure(&mut self, kind: u8) -> bool {
+    fn count_in_procedure(&mut self, row: &Row) -> bool {
         let procedure = self.procedures.last_mut().expect("a procedure stands above");
-        let (count, most) = match kind {
-            kind::LOCAL => (&mut procedure.locals, limit::LOCALS),
+        let (count, most) = match row.kind {
+            kind::LOCAL => {
+                procedure.params += usize::from(row.c == 1);
+                (&mut procedure.locals, limit::LOCALS)
+            }
             kind::RESULT => (&mut procedure.results, limit::RESULTS),
             _ => (&mut procedure.code, limit::INSTRUCTIONS),
         };
@@ -116,40 +125,32 @@ impl Outline {
         *count <= most
     }
 
-    /// Whether every byte of the row (counted in already) holds a value allowed there.
-    fn allows(&mut self, row: &Row) -> bool {
-        let Row { a, b, c, d, .. } = *row;
-        match row.kind {
-            kind::MODULE | kind::PROCEDURE => a <= 1 && b == 0 && c == 0 && d == 0,
-            kind::TYPE => a == 0 && b == 0 && c == 0 && d == 0,
-            kind::FIELD => a <= 1 && (a == 1 || b == 0) && self.guard_allowed(row) && d == 0,
-            kind::LOCAL => sort_allowed(a, b) && self.param_allowed(c) && d == 0,
-            kind::RESULT => sort_allowed(a, b) && c == 0 && d == 0,
-            _ => instruction_allowed(row),
-        }
+    /// Whether the row (counted in already) has only values allowed in the bytes that it uses.
+    fn allows_values(&self, row: &Row) -> bool {
+        let rest = match row.kind {
+            kind::FIELD => row.c <= 1,
+            kind::LOCAL => row.c == 0 || (row.c == 1 && self.params_only()),
+            kind::INSTRUCTION => row.a != op::OP || row.b <= op::LAST_OP,
+            _ => true,
+        };
+        rest && row.a <= last_a(row.kind)
     }
 
-    fn guard_allowed(&self, field: &Row) -> bool {
+    /// Whether all locals of this procedure so far are parameters.
+    fn params_only(&self) -> bool {
+        let procedure = self.procedures.last().expect("a procedure stands above");
+        procedure.params == procedure.locals
+    }
+
+    /// Whether the row, if it is a guarded field, is a number of a trusted module.
+    fn allows_guard(&self, row: &Row) -> bool {
+        let guarded = row.kind == kind::FIELD && row.c == 1;
         let trusted = *self.trusted.last().expect("a module stands above");
-        field.c == 0 || (field.c == 1 && field.a == 0 && trusted)
-    }
-
-    fn param_allowed(&mut self, c: u32) -> bool {
-        let procedure = self.procedures.last_mut().expect("a procedure stands above");
-        if c == 1 && procedure.params + 1 == procedure.locals {
-            procedure.params += 1;
-            return true;
-        }
-        c == 0
+        !guarded || (row.a == sort::NUMBER && trusted)
     }
 }
 
-fn sort_allowed(a: u8, b: u16) -> bool {
-    a <= sort::LAST && (sort::uses_b(a) || b == 0)
-}
-
-fn instruction_allowed(row: &Row) -> bool {
-    let Row { a, b, c, d, .. } = *row;
-    let unused_zero = (op::uses_b(a) || b == 0) && c == 0 && (op::uses_d(a) || d == 0);
-    a <= op::LAST && (a != op::OP || b <= 3) && unused_zero
+fn unused_zero(row: &Row) -> bool {
+    let used = uses(row.kind, row.a);
+    (used.a || row.a == 0) && (used.b || row.b == 0) && (used.c || row.c == 0) && (used.d || row.d == 0)
 }

@@ -1,4 +1,5 @@
-//! The examples of document 01, written as bytes, the same with Freeze, and the example of the readings.
+//! The examples of document 01 with the numbers of document 02, written as bytes, the same with Freeze, and the example
+//! of the readings.
 
 mod common;
 
@@ -146,7 +147,7 @@ fn t_unguarded() {
 fn t_of_a_guest() {
     let mut rows = T;
     rows[0][1] = 0;
-    assert_eq!(reference::judge(&rows.concat()), Err((4, 2)));
+    assert_eq!(reference::judge(&rows.concat()), Err((19, 2)));
 }
 
 #[test]

@@ -2,11 +2,14 @@
 
 use reference::gen::plan::Plan;
 use reference::gen::rng::Rng;
+use reference::gen::value_faults::{self, CAUSES};
 use reference::gen::view_faults::{add_pair, Family, FAMILIES};
 use reference::gen::{faults, limits, runs, structured, tables, wild};
 use reference::machine::{Access, Machine, Outcome, Reference, Value, Watch};
 use reference::program::{Instr, Procedure, Program, Sort};
+use reference::row::{write_rows, Row};
 use reference::walks::{joint, places};
+use reference::TABLE_PASSES;
 use std::collections::BTreeMap;
 
 #[test]
@@ -21,7 +24,7 @@ fn judging_is_deterministic() {
         match verdict {
             Ok(rows) => assert_eq!(rows * 16, table.len()),
             Err((number, row)) => {
-                assert!((1..=14).contains(&number));
+                assert!(TABLE_PASSES.iter().any(|(_, refusals)| refusals.contains(&number)));
                 assert!(row == 0 || row < table.len() / 16);
             }
         }
@@ -309,8 +312,57 @@ fn each_refusal_and_stop_comes_often() {
     }
     assert!((200..verdicts[&0] - 100).contains(&freezing), "Freeze in {freezing} accepted tables");
     assert!((500..=900).contains(&verdicts[&0]), "{verdicts:?}");
-    assert!((1..=14).all(|number| verdicts[&number] >= 30), "{verdicts:?}");
+    for number in TABLE_PASSES.iter().flat_map(|(_, refusals)| *refusals) {
+        assert!(verdicts.get(number).is_some_and(|&times| times >= 30), "{number}: {verdicts:?}");
+    }
     assert!(bytes < 4_000_000, "{bytes} bytes");
+}
+
+#[test]
+fn each_refusal_comes_among_runs() {
+    let mut refusals = BTreeMap::new();
+    for number in 0..8_000 {
+        let case = runs::case(1, number);
+        if let Err((number, _)) = reference::run(&case.table, &case.list, case.text_len) {
+            *refusals.entry(number).or_insert(0) += 1;
+        }
+    }
+    assert!((1..=19).all(|number| refusals.contains_key(&number)), "{refusals:?}");
+    assert!((15..=17).all(|number| refusals[&number] >= 200), "{refusals:?}");
+}
+
+/// A cause alone, with a dirty byte beside it, with more in its used bytes, and with both.
+#[test]
+fn wrong_values_are_told_at_their_row() {
+    for (number, cause) in CAUSES {
+        for item in 0..150 {
+            let mut rng = Rng::stream(23, 0, item);
+            let mut rows = structured::plan(&mut rng, structured::SMALL).rows();
+            let at = value_faults::put_in(&mut rows, &mut rng, cause);
+            let verdict = |rows: &[Row]| reference::judge(&write_rows(rows));
+            let mut dirty = |rows: &[Row]| {
+                let mut rows = rows.to_vec();
+                value_faults::dirty(&mut rows[at], &mut rng);
+                verdict(&rows)
+            };
+            assert_eq!(verdict(&rows), Err((number, at)), "{cause:?}, item {item}");
+            assert_eq!(dirty(&rows), Err((4, at)), "{cause:?}, item {item}");
+            value_faults::worsen(&mut rows[at], &mut Rng::stream(24, 0, item));
+            assert_eq!(verdict(&rows), Err((18, at)), "{cause:?}, item {item}");
+            assert_eq!(dirty(&rows), Err((4, at)), "{cause:?}, item {item}");
+        }
+    }
+}
+
+#[test]
+fn tables_meant_for_4_18_and_19_get_them() {
+    for number in [4, 18, 19] {
+        for item in 0..300 {
+            let table = faults::table(&mut Rng::stream(25, number.into(), item), number);
+            let refusal = reference::judge(&table).err().map(|refusal| refusal.0);
+            assert_eq!(refusal, Some(number), "item {item}");
+        }
+    }
 }
 
 #[test]

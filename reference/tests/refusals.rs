@@ -1,4 +1,4 @@
-//! Tables written by hand for each refusal. The numbers and rows are read off document 01.
+//! Tables written by hand for each refusal. The numbers and rows are read off documents 01 and 02.
 
 mod common;
 
@@ -147,7 +147,7 @@ fn a_limit_before_a_value() {
     rows[16].a = 9;
     refused(&rows, 3, 16);
     rows[15].a = 9;
-    refused(&rows, 4, 15);
+    refused(&rows, 18, 15);
 }
 
 // 4
@@ -198,56 +198,118 @@ fn unused_bytes() {
 fn check_bytes(before: &[Row], row: Row, after: &[Row], used: &[usize]) {
     for place in 2..16 {
         for value in [1, 128] {
-            let mut bytes = row.to_bytes();
-            bytes[place] = value;
-            let rows = with(&with(before, &[Row::from_bytes(&bytes)]), after);
-            let verdict = judge(&rows);
-            if !used.contains(&place) {
-                assert_eq!(verdict, Err((4, before.len())), "{row:?} byte {place}");
-            } else if row.kind != 3 && row.kind != 5 && row.a != 19 {
-                assert_ne!(verdict, Err((4, before.len())), "{row:?} byte {place}");
+            let rows = with(&with(before, &[with_byte(row, place, value)]), after);
+            let dirty = judge(&rows) == Err((4, before.len()));
+            assert_eq!(dirty, !used.contains(&place), "{row:?} byte {place}");
+        }
+    }
+}
+
+fn with_byte(row: Row, place: usize, value: u8) -> Row {
+    let mut bytes = row.to_bytes();
+    bytes[place] = value;
+    Row::from_bytes(&bytes)
+}
+
+#[test]
+fn a_of_types_is_unused() {
+    for a in 1..=255 {
+        refused(&[guest(), Row { a, ..ty() }], 4, 1);
+    }
+}
+
+#[test]
+fn unused_bytes_beside_an_a_that_is_not_allowed() {
+    // A row with the last allowed A, the rows above it, and which bytes after A some allowed A uses.
+    let module = [trusted(), ty()];
+    let procedure = [trusted(), public()];
+    let cases: [(&[Row], Row, &[usize]); 6] = [
+        (&[], trusted(), &[]),
+        (&module, nested(0), &[2, 3, 4, 5, 6, 7]),
+        (&module, public(), &[]),
+        (&procedure, local(rec_view(0)), &[2, 3, 4, 5, 6, 7]),
+        (&procedure, result(rec_view(0)), &[2, 3]),
+        (&procedure, instr(20, 0), &[2, 3, 8, 9, 10, 11, 12, 13, 14, 15]),
+    ];
+    for (above, row, used) in cases {
+        for a in [row.a + 1, 100, 255] {
+            let row = Row { a, ..row };
+            refused(&with(above, &[row]), 18, above.len());
+            for place in 2..16 {
+                let number = if used.contains(&place) { 18 } else { 4 };
+                for value in [1, 2, 128] {
+                    refused(&with(above, &[with_byte(row, place, value)]), number, above.len());
+                }
             }
         }
     }
 }
 
-#[test]
-fn values_of_a() {
+// 18
+
+/// Whether a row is refused with 18, for every A.
+fn check_a(most: u8, rows: impl Fn(u8) -> Vec<Row>, at: usize) {
     for a in 0..=255 {
-        let allowed = |most: u8, rows: &[Row], at: usize| {
-            assert_eq!(judge(rows) == Err((4, at)), a > most, "{a} at row {at} of {rows:?}");
-        };
-        allowed(1, &[Row { a, ..guest() }], 0);
-        allowed(0, &[guest(), Row { a, ..ty() }], 1);
-        allowed(1, &[guest(), ty(), Row { a, ..num() }], 2);
-        allowed(1, &[guest(), Row { a, ..public() }, ret()], 1);
-        allowed(5, &procedure(&[Row { a, ..local(N) }, ret()]), 2);
-        allowed(5, &procedure(&[Row { a, ..result(N) }, ret()]), 2);
-        allowed(20, &procedure(&[instr(a, 0), ret()]), 2);
+        assert_eq!(judge(&rows(a)) == Err((18, at)), a > most, "{a} at row {at}");
     }
 }
 
 #[test]
-fn values_of_c() {
-    for c in [2, 3, 256, 257, 65_536, 0x0100_0000, u32::MAX] {
-        refused(&[trusted(), ty(), Row { c, ..num() }], 4, 2);
-        refused(&procedure(&[Row { c, ..local(N) }, ret()]), 4, 2);
+fn a_of_modules() {
+    check_a(1, |a| vec![Row { a, ..guest() }], 0);
+}
+
+#[test]
+fn a_of_fields() {
+    check_a(1, |a| vec![guest(), ty(), Row { a, ..num() }], 2);
+}
+
+#[test]
+fn a_of_procedures() {
+    check_a(1, |a| vec![guest(), Row { a, ..public() }, ret()], 1);
+}
+
+#[test]
+fn sorts_of_locals() {
+    check_a(5, |a| procedure(&[Row { a, ..local(N) }, ret()]), 2);
+}
+
+#[test]
+fn sorts_of_results() {
+    check_a(5, |a| procedure(&[Row { a, ..result(N) }, ret()]), 2);
+}
+
+#[test]
+fn opcodes() {
+    check_a(20, |a| procedure(&[instr(a, 0), ret()]), 2);
+}
+
+const OVER_ONE: [u32; 7] = [2, 3, 256, 257, 65_536, 0x0100_0000, u32::MAX];
+
+#[test]
+fn c_of_fields() {
+    for c in OVER_ONE {
+        refused(&[trusted(), ty(), Row { c, ..num() }], 18, 2);
+        refused(&[guest(), ty(), Row { c, ..num() }], 18, 2);
+        refused(&[trusted(), ty(), ty(), Row { c, ..nested(0) }], 18, 3);
     }
 }
 
 #[test]
-fn guards() {
-    accepted(&[trusted(), ty(), guarded()]);
-    refused(&[guest(), ty(), guarded()], 4, 2);
-    refused(&[trusted(), guest(), ty(), guarded()], 4, 3);
-    accepted(&[guest(), trusted(), ty(), guarded()]);
-    refused(&[trusted(), ty(), ty(), Row { c: 1, ..nested(0) }], 4, 3);
+fn c_of_locals() {
+    for c in OVER_ONE {
+        for row in [local(N), local(R), local(V), local(rec(0))] {
+            refused(&procedure(&[Row { c, ..row }, ret()]), 18, 2);
+        }
+        refused(&procedure(&[local(N), Row { c, ..local(N) }, ret()]), 18, 3);
+    }
 }
 
 #[test]
 fn parameters_first() {
     accepted(&procedure(&[param(N), param(R), local(N), local(R), ret()]));
-    refused(&procedure(&[param(N), local(R), param(N), ret()]), 4, 4);
+    refused(&procedure(&[param(N), local(R), param(N), ret()]), 18, 4);
+    refused(&procedure(&[local(N), local(R), local(N), param(N), ret()]), 18, 5);
     // Each procedure by itself.
     accepted(&procedure(&[local(N), ret(), public(), param(N), ret()]));
 }
@@ -257,8 +319,133 @@ fn ops() {
     for which in 0..4 {
         accepted(&procedure(&[load(1), load(2), arith(which), pop(), ret()]));
     }
-    refused(&procedure(&[load(1), load(2), arith(4), pop(), ret()]), 4, 4);
-    refused(&procedure(&[load(1), load(2), arith(256), pop(), ret()]), 4, 4);
+    for which in [4, 5, 255, 256, 65_535] {
+        refused(&procedure(&[load(1), load(2), arith(which), pop(), ret()]), 18, 4);
+    }
+}
+
+// 19
+
+#[test]
+fn guards_of_guests() {
+    accepted(&[trusted(), ty(), guarded()]);
+    refused(&[guest(), ty(), guarded()], 19, 2);
+    refused(&[trusted(), guest(), ty(), guarded()], 19, 3);
+    refused(&[guest(), ty(), num(), guarded()], 19, 3);
+    accepted(&[guest(), trusted(), ty(), guarded()]);
+}
+
+#[test]
+fn guarded_records() {
+    let guarded_record = Row { c: 1, ..nested(0) };
+    refused(&[trusted(), ty(), ty(), guarded_record], 19, 3);
+    refused(&[guest(), ty(), ty(), guarded_record], 19, 3);
+    // Type 1 is no lower number; that is for the names pass.
+    refused(&[trusted(), ty(), ty(), Row { b: 1, ..guarded_record }], 19, 3);
+}
+
+// The order of 2, 3, 4, 18 and 19.
+
+#[test]
+fn an_unused_byte_before_a_value() {
+    let unshaped = [
+        Row { b: 1, ..local(N) },
+        Row { d: 1, ..local(R) },
+        Row { d: 1, ..local(rec(0)) },
+        Row { b: 1, d: 1, ..local(V) },
+    ];
+    for row in unshaped {
+        // C over 1, and a parameter after another local.
+        refused(&procedure(&[Row { c: 2, ..row }, ret()]), 4, 2);
+        refused(&procedure(&[local(N), Row { c: 1, ..row }, ret()]), 4, 3);
+        refused(&procedure(&[Row { a: 6, d: 1, ..row }, ret()]), 4, 2);
+    }
+    refused(&[Row { a: 2, b: 1, ..guest() }], 4, 0);
+    refused(&[trusted(), ty(), Row { a: 2, d: 1, ..num() }], 4, 2);
+    refused(&[trusted(), ty(), Row { b: 1, c: 2, ..num() }], 4, 2);
+    refused(&[trusted(), ty(), Row { c: 256, d: 1, ..num() }], 4, 2);
+    refused(&[guest(), Row { a: 2, c: 1, ..public() }], 4, 1);
+    refused(&procedure(&[Row { a: 6, c: 1, ..result(N) }, ret()]), 4, 2);
+    refused(&procedure(&[Row { c: 1, ..instr(21, 0) }, ret()]), 4, 2);
+    refused(&procedure(&[Row { c: 1, ..arith(4) }, ret()]), 4, 2);
+    refused(&procedure(&[Row { d: 1, ..arith(4) }, ret()]), 4, 2);
+}
+
+#[test]
+fn an_unused_byte_before_a_guard() {
+    refused(&[guest(), ty(), Row { b: 1, ..guarded() }], 4, 2);
+    refused(&[guest(), ty(), Row { d: 1, ..guarded() }], 4, 2);
+    refused(&[trusted(), ty(), ty(), Row { c: 1, d: 1, ..nested(0) }], 4, 3);
+    refused(&[trusted(), ty(), Row { b: 1, ..guarded() }], 4, 2);
+}
+
+#[test]
+fn a_value_before_a_guard() {
+    for module in [guest(), trusted()] {
+        refused(&[module, ty(), Row { a: 2, ..guarded() }], 18, 2);
+        refused(&[module, ty(), Row { a: 2, b: 9, ..guarded() }], 18, 2);
+        refused(&[module, ty(), Row { a: 2, d: 1, ..guarded() }], 4, 2);
+        for c in OVER_ONE {
+            refused(&[module, ty(), Row { c, ..num() }], 18, 2);
+            refused(&[module, ty(), ty(), Row { c, ..nested(0) }], 18, 3);
+        }
+    }
+}
+
+#[test]
+fn a_kind_before_all_of_the_row() {
+    let wrong = [Row { d: 1, ..num() }, Row { a: 2, ..num() }, Row { c: 2, ..num() }, guarded()];
+    for row in wrong {
+        // A field below a procedure, and a row of no kind.
+        refused(&[guest(), public(), row], 2, 2);
+        refused(&[guest(), ty(), Row { kind: 8, ..row }], 2, 2);
+    }
+}
+
+#[test]
+fn a_limit_before_all_of_the_row() {
+    let mut fields = vec![guest(), ty()];
+    fields.extend([num(); 8]);
+    for row in [Row { d: 1, ..num() }, Row { a: 2, ..num() }, Row { c: 2, ..num() }, guarded()] {
+        refused(&with(&fields, &[row]), 3, 10);
+    }
+    let locals = [local(N); 16];
+    for row in [param(N), Row { d: 1, ..local(N) }, Row { a: 6, ..local(N) }, Row { c: 2, ..local(N) }] {
+        refused(&procedure(&with(&locals, &[row, ret()])), 3, 18);
+    }
+}
+
+#[test]
+fn the_lowest_row_of_the_rows_pass() {
+    let unknown = Row { kind: 9, ..Row::default() };
+    let dirty = Row { d: 1, ..public() };
+    let value = Row { a: 2, ..public() };
+    // Row 2 has 19; below it 2, 4, 18 and, from the 17th module on, 3.
+    let guard = [guest(), ty(), guarded()];
+    for below in [unknown, dirty, value] {
+        refused(&with(&guard, &[below]), 19, 2);
+    }
+    refused(&with(&guard, &[guest(); 16]), 19, 2);
+    // Row 1 has 18, then 4.
+    for below in [unknown, dirty, value, guest()] {
+        refused(&with(&[guest(), value, below], &guard), 18, 1);
+        refused(&with(&[guest(), dirty, below], &guard), 4, 1);
+    }
+    refused(&with(&[guest(), value], &[guest(); 16]), 18, 1);
+    // Row 1 has 2, or row 16 has 3.
+    refused(&with(&[guest(), unknown, value], &guard), 2, 1);
+    refused(&with(&with(&[guest(); 17], &[value]), &guard), 3, 16);
+}
+
+#[test]
+fn the_rows_pass_before_later_ones() {
+    // Procedure 0 has no instructions; procedure 1 names a type and a local that are not there.
+    let later = [guest(), public(), public(), param(rec(7)), cp(9), pop(), ret()];
+    refused(&later, 5, 1);
+    refused(&with(&later, &[guest(), ty(), guarded()]), 19, 9);
+    refused(&with(&later, &[public(), instr(21, 0)]), 18, 8);
+    refused(&with(&later, &[public(), local(N), param(N)]), 18, 9);
+    refused(&with(&later, &[public(), Row { c: 1, ..ret() }]), 4, 8);
 }
 
 // 5
@@ -1004,7 +1191,11 @@ fn passes_in_their_order() {
     let empty = [public(), local(N), cp(0), pop(), ret()];
     let untyped = [public(), pop(), ret()];
     let unnamed = [public(), jump(9)];
-    let unshaped = [public(), instr(21, 0), ret()];
+    let unshaped = [
+        (18, 1, vec![public(), instr(21, 0), ret()]),
+        (19, 2, vec![guest(), ty(), guarded()]),
+        (4, 1, vec![public(), Row { c: 1, ..ret() }]),
+    ];
     let mut rows = bank(&[]);
     let at = rows.len();
     rows.extend(leak);
@@ -1019,8 +1210,11 @@ fn passes_in_their_order() {
     rows.extend(unnamed);
     refused(&rows, 6, at + 1);
     let at = rows.len();
-    rows.extend(unshaped);
-    refused(&rows, 4, at + 1);
+    for (number, below, unshaped) in &unshaped {
+        refused(&with(&rows, unshaped), *number, at + below);
+    }
+    rows.extend(unshaped.into_iter().flat_map(|(_, _, rows)| rows));
+    refused(&rows, 18, at + 1);
     let mut bytes = write_rows(&rows);
     bytes.push(0);
     assert_eq!(reference::judge(&bytes), Err((1, 0)));

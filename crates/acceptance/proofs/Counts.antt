@@ -21,10 +21,11 @@ use Rattle.table.proofs.Laws.{type-within, type-fields, procedure-parts, proced
 use Rattle.declarations.specs.Program.{typeIn, fieldCount}
 use Rattle.declarations.proofs.Laws.{nth-below}
 use Rattle.rows.specs.declared.Above.{Above}
-use Rattle.rows.specs.Rows.{faultAt, tooMany, usesA, usesC, uses, useOf, badValue, aboveAt, belowRow, countBelow, countOf, owned, limits}
+use Rattle.rows.proofs.Faults.{faultless}
+use Rattle.rows.specs.Rows.{Faultless, faultAt, tooMany, usesA, usesC, uses, useOf, badValue, aboveAt, belowRow, countBelow, countOf, owned, limits}
 use Rattle.judging.proofs.Sizes.{nth-hit}
 use Rattle.acceptance.proofs.Rows.{count-nth}
-use Rattle.acceptance.proofs.Guest.{row-tests, type-row, type-below, type-kind, field-end}
+use Rattle.acceptance.proofs.Guest.{type-row, type-below, type-kind, field-end}
 
 -- A count of rows of kind k, as it is carried from row to row.
 module _ (k : ℕ) (number : Above → ℕ) (carried : (s : Above) (row : Row) → number (belowRow s row) ≡ countBelow k (row .kind) (number s)) (t : List ℕ) where
@@ -53,7 +54,7 @@ module _ (k : ℕ) (number : Above → ℕ) (carried : (s : Above) (row : Row) �
       rw s (number-next (a + d) ∙ rw (← q, c) (number-still kind a d c (λ j lo hi. h j lo (omega arith))))
 
   -- where rows of this kind are numbered through the table, it is a count of rows
-  number-count : number (aboveAt t 0) ≡ 0 → ((kind : ℕ) → member k (getD owned kind []) ≡ false) → (i : ℕ) → number (aboveAt t i) ≡ count (isKind t k) i
+  pub number-count : number (aboveAt t 0) ≡ 0 → ((kind : ℕ) → member k (getD owned kind []) ≡ false) → (i : ℕ) → number (aboveAt t i) ≡ count (isKind t k) i
   unfolding countBelow isKind
   number-count start free zero = start ∙ sym (count-zero (isKind t k))
   number-count start free (suc i) = let r = go (isKind t k i) refl (number-count start free i) in rw add-one at r
@@ -63,7 +64,7 @@ module _ (k : ℕ) (number : Above → ℕ) (carried : (s : Above) (row : Row) �
       go false e ih = number-next i ∙ rw (e, free, count-no (isKind t k) i e, ih)
 
 -- a kind whose rows are numbered through the table
-no-owner : (k : ℕ) → every (λ (i : ℕ). not (member k (getD owned i []))) 9 ≡ true → (kind : ℕ) → member k (getD owned kind []) ≡ false
+pub no-owner : (k : ℕ) → every (λ (i : ℕ). not (member k (getD owned i []))) 9 ≡ true → (kind : ℕ) → member k (getD owned kind []) ≡ false
 unfolding owned member
 no-owner k free kind = go (decLt kind 9)
   where
@@ -79,9 +80,9 @@ low s row e = leb-false _ _ e
 -- A table whose rows have no fault.
 module _ (t : List ℕ) (fine : (i : ℕ) → i < rowCount t → faultAt t i ≡ 0) where
   -- the tests of its rows
-  tests : (i : ℕ) → i < rowCount t → (tooMany (aboveAt t i) (rowAt t i) ≡ false) × (badValue (aboveAt t i) (rowAt t i) ≡ false)
+  tests : (i : ℕ) → i < rowCount t → Faultless (aboveAt t i) (rowAt t i)
   unfolding faultAt
-  tests i h = let r = row-tests (aboveAt t i) (rowAt t i) (fine i h) in (r .0, r .2)
+  tests i h = faultless (aboveAt t i) (rowAt t i) .0 (fine i h)
 
   -- where rows are numbered through the table, their numbers are below the limit
   number-few : (k : ℕ) (number : Above → ℕ) → ((s : Above) (row : Row) → number (belowRow s row) ≡ countBelow k (row .kind) (number s)) → number (aboveAt t 0) ≡ 0
@@ -91,7 +92,7 @@ module _ (t : List ℕ) (fine : (i : ℕ) → i < rowCount t → faultAt t i ≡
       let r = nth (isKind t k) (indexedRows t) q in
       let e : rowAt t r .kind ≡ k = eqb-true _ _ (nth-hit (isKind t k) (indexedRows t) q there) in
       let b = nth-below (isKind t k) (indexedRows t) q there in
-      let l = low (aboveAt t r) (rowAt t r) (tests r (omega (arith, b)) .0) in
+      let l = low (aboveAt t r) (rowAt t r) (tests r (omega (arith, b)) .within) in
       let m : countOf (aboveAt t r) k < getD limits k 0 = rw e at l in
       let c = number-count k number carried t start (no-owner k free) r in
       omega (arith, m, counts (aboveAt t r), c, count-nth (isKind t k) (indexedRows t) q there)
@@ -108,7 +109,7 @@ module _ (t : List ℕ) (fine : (i : ℕ) → i < rowCount t → faultAt t i ≡
   -- a field is below its limit
   field-low : (i : ℕ) → i < rowCount t → 3 ≡ kindAt t i → aboveAt t i .fields < 8
   unfolding countOf limits kindAt
-  field-low i h q = rw (← q) at (low (aboveAt t i) (rowAt t i) (tests i h .0))
+  field-low i h q = rw (← q) at (low (aboveAt t i) (rowAt t i) (tests i h .within))
 
   -- below a type's row there is no field yet
   no-field : (r : ℕ) → kindAt t r ≡ typeKind → aboveAt t (r + 1) .fields ≡ 0
@@ -134,7 +135,7 @@ module _ (t : List ℕ) (fine : (i : ℕ) → i < rowCount t → faultAt t i ≡
   -- a result is below its limit
   result-low : (i : ℕ) → i < rowCount t → 6 ≡ kindAt t i → aboveAt t i .results < 4
   unfolding countOf limits kindAt
-  result-low i h q = rw (← q) at (low (aboveAt t i) (rowAt t i) (tests i h .0))
+  result-low i h q = rw (← q) at (low (aboveAt t i) (rowAt t i) (tests i h .within))
 
   -- a procedure at row i has at most 4 results
   pub results-few : (i : ℕ) → i < indexedRows t → procedureKind ≡ kindAt t i → codeStart t i - resultsStart t i ≤ 4
@@ -196,19 +197,19 @@ module _ (t : List ℕ) (fine : (i : ℕ) → i < rowCount t → faultAt t i ≡
   -- the opcode, if it is an instruction
   pub row-opcode : kindAt t i ≡ instructionKind → rowAt t i .a < pastOpcodes
   unfolding kindAt
-  row-opcode k = code-values (aboveAt t i) (rowAt t i) (tests t fine i h .1) k
+  row-opcode k = code-values (aboveAt t i) (rowAt t i) (tests t fine i h .allowed) k
 
   -- the operand, if it is Op
   pub row-op : kindAt t i ≡ instructionKind → rowAt t i .a ≡ opOp → rowAt t i .b < pastOps
   unfolding kindAt
-  row-op k o = op-values (aboveAt t i) (rowAt t i) (tests t fine i h .1) k o
+  row-op k o = op-values (aboveAt t i) (rowAt t i) (tests t fine i h .allowed) k o
 
   -- the sort, if it is a field
   pub row-sort : kindAt t i ≡ fieldKind → rowAt t i .a < 2
   unfolding kindAt
-  row-sort k = field-values (aboveAt t i) (rowAt t i) (tests t fine i h .1) k
+  row-sort k = field-values (aboveAt t i) (rowAt t i) (tests t fine i h .allowed) k
 
   -- A, if it is a module
   pub row-trust : kindAt t i ≡ moduleKind → rowAt t i .a < 2
   unfolding kindAt
-  row-trust k = module-values (aboveAt t i) (rowAt t i) (tests t fine i h .1) k
+  row-trust k = module-values (aboveAt t i) (rowAt t i) (tests t fine i h .allowed) k

@@ -20,9 +20,9 @@ use Rattle.table.specs.Index.{noType, indexOf, indexedRows, ownerAt, typeAt}
 use Rattle.table.proofs.Laws.{row-outside, not-kind, type-within, type-fields}
 use Rattle.declarations.specs.Program.{typeIn, codeOf, fieldCount, fieldRow, instructionIn}
 use Rattle.declarations.proofs.Laws.{nth-below}
-use Rattle.declarations.proofs.Passes.{unfaulted}
 use Rattle.rows.specs.declared.Above.{Above}
-use Rattle.rows.specs.Rows.{rowsOf, faultAt, rowFault, misplaced, tooMany, unusedByte, badValue, badGuard, aboveAt, belowRow, countBelow, countOf, owned, limits}
+use Rattle.rows.proofs.Faults.{faultless}
+use Rattle.rows.specs.Rows.{rowsOf, faultAt, tooMany, badGuard, aboveAt, belowRow, countBelow, countOf, owned, limits}
 use Rattle.names.specs.Names.{namesOf, names}
 use Rattle.operands.specs.Operands.{namedType}
 use Rattle.operands.specs.Flow.{Flow}
@@ -31,16 +31,6 @@ use Rattle.acceptance.specs.Checked.{stepIn}
 use Rattle.leaks.specs.Leaks.{borrowsGuarded, inTrusted}
 use Rattle.judging.proofs.Sizes.{rows-fine, nth-hit}
 use Rattle.acceptance.proofs.Rows.{count-stretch, own, code-named}
-
--- what a row without fault is not
-pub row-tests : (s : Above) (row : Row) → rowFault s row ≡ 0 → (tooMany s row ≡ false) × (badGuard s row ≡ false) × (badValue s row ≡ false)
-unfolding rowFault
-row-tests s row e =
-    let a = unfaulted (misplaced s row) 1 _ e in
-    let b = unfaulted (tooMany s row) 2 _ (a .1) in
-    let c = unfaulted (unusedByte row) 3 _ (b .1) in
-    let d = unfaulted (badValue s row) 3 _ (c .1) in
-    (b .0, unfaulted (badGuard s row) 3 0 (d .1) .0, d .0)
 
 -- modules are numbered through the table
 no-owner : (k : ℕ) → member 1 (getD owned k []) ≡ false
@@ -102,7 +92,7 @@ module _ (t : List ℕ) (fine : (i : ℕ) → i < rowCount t → faultAt t i ≡
   unfolding faultAt isKind kindAt tooMany limits countOf
   module-low i h e =
       let k : rowAt t i .kind ≡ 1 = eqb-true _ _ e in
-      let l = leb-false (getD limits (rowAt t i .kind) 0) (countOf (aboveAt t i) (rowAt t i .kind)) (row-tests (aboveAt t i) (rowAt t i) (fine i h) .0) in
+      let l = leb-false (getD limits (rowAt t i .kind) 0) (countOf (aboveAt t i) (rowAt t i .kind)) (faultless (aboveAt t i) (rowAt t i) .0 (fine i h) .within) in
       let m : aboveAt t i .modules < 16 = rw k at l in
       omega (arith, modules-above t i)
 
@@ -170,8 +160,8 @@ module _ (t : List ℕ) (fine : (i : ℕ) → i < rowCount t → faultAt t i ≡
         let r = type-row + 1 + f in
         let w = type-within t type-row refl type-below in
         let k = type-fields t type-row {j = r} (omega arith) field-end in
-        let tests = row-tests (aboveAt t r) (rowAt t r) (fine r (omega (arith, w, field-end))) in
-        let tr = guard-trusted (aboveAt t r) (rowAt t r) (tests .1) (sym k) (rw type-is at g) in
+        let tests = faultless (aboveAt t r) (rowAt t r) .0 (fine r (omega (arith, w, field-end))) in
+        let tr = guard-trusted (aboveAt t r) (rowAt t r) (tests .guarded) (sym k) (rw type-is at g) in
         let m = trusted-module r (omega (arith, w, field-end)) tr in
         let c = count-stretch (isKind t moduleKind) type-row r (omega arith) (λ j lo hi. not-kind t j moduleKind refl (λ e. go j lo hi (decLt type-row j) e)) in
         rw type-is (rw c at m)

@@ -15,3 +15,6 @@ pub mod Types
 pub mod Instructions
 pub mod Judged
 pub mod ProcedureRows
+pub mod RowPlaces
+pub mod RowCauses
+pub mod RowRefusals

@@ -23,6 +23,12 @@ lowest-one E {number} {row} {number′} {row′} a b =
     (λ x. ⊎-elim (λ y. absurd (omega (arith, x, y))) (λ y. omega (arith, x, y)) (b .first number row (a .earned)))
     (a .first number′ row′ (b .earned))
 
+-- so a verdict that refuses only the lowest row, and accepts only where no row earns a number, refuses the lowest row: another answer would tell another one, or none
+pub lowest-refused : (E : ℕ → ℕ → Type 0) (v : Verdict) → ((number row : ℕ) → v ≡ Refused number row → Lowest E number row) → ((n : ℕ) → v ≡ Accepted n → (number row : ℕ) → E number row → ⊥)
+    → {number row : ℕ} → Lowest E number row → v ≡ Refused number row
+lowest-refused E (Accepted n) told none {number} {row} low = absurd (none n refl number row (low .earned))
+lowest-refused E (Refused n r) told none low = let s = lowest-one E (told n r refl) low in ap₂ Refused (s .0) (s .1)
+
 -- Faults that are, at every instruction of a table, the lowest number that there is a cause for.
 pub record Tells (Cause : List ℕ → ℕ → ℕ → ℕ → Type 0) (fault : ℕ → ProcedureEntry → ℕ → ℕ) (t : List ℕ) : Type 0 where
   pub shown : (q i : ℕ) → q < indexOf t .procedures → i < rowCount (codeOf t (own t q)) → (fault q (own t q) i ≡ 0 → ⊥) → Cause t q i (fault q (own t q) i)
@@ -67,10 +73,6 @@ module _ (Cause : List ℕ → ℕ → ℕ → ℕ → Type 0) (fault : ℕ → 
       go q i there inside (yes z) = z
       go q i there inside (no z) = absurd (none _ _ (q, i, there, inside, refl, tells .shown q i there inside z))
 
-  -- the lowest row that earns a number is refused, since a pass that answers otherwise would tell another lowest one, or none
+  -- the lowest row that earns a number is refused
   pub lowest-pass : {number row : ℕ} → Lowest (Earns Cause t) number row → codePass fault (indexOf t) t ≡ Refused number row
-  lowest-pass {number} {row} low = go (codePass fault (indexOf t) t) refl
-    where
-      go : (v : Verdict) → codePass fault (indexOf t) t ≡ v → v ≡ Refused number row
-      go (Accepted n) e = absurd (pass-none e number row (low .earned))
-      go (Refused n r) e = let s = lowest-one (Earns Cause t) (pass-lowest e) low in ap₂ Refused (s .0) (s .1)
+  lowest-pass low = lowest-refused (Earns Cause t) (codePass fault (indexOf t) t) (λ number row e. pass-lowest e) (λ n e. pass-none e) low

@@ -19,10 +19,11 @@ use Rattle.table.specs.Rows.{rowCount, rowAt, kindAt, isKind}
 use Rattle.table.specs.Index.{indexOf, indexedRows, runEnd, procedureAt, resultsStart, codeStart, codeEnd}
 use Rattle.table.specs.Procedures.{rowsBetween, partOf, partStart, procedureRow, endsProcedure, procedureEnd, hasProcedure, procedureRows, procedureStart}
 use Rattle.table.proofs.Laws.{is-kind, not-kind, ends-module, ends-procedure, ends-not, part-inside, start-inside, procedure-locals, procedure-results, procedure-code}
-use Rattle.rows.specs.Rows.{lengthOf, rowsOf, faultAt, rowFault, misplaced, mayFollow, aboveAt, belowRow}
+use Rattle.rows.proofs.Faults.{faultless}
+use Rattle.rows.specs.Rows.{lengthOf, rowsOf, faultAt, misplaced, mayFollow, aboveAt, belowRow}
 use Rattle.rows.proofs.Laws.{froms, tos, follow, follow-none}
 use Rattle.declarations.specs.Program.{localCount, codeOf, procedureIn}
-use Rattle.declarations.proofs.Passes.{refused-accepted, unfaulted}
+use Rattle.declarations.proofs.Passes.{refused-accepted}
 use Rattle.judging.proofs.Sizes.{rows-fine}
 use Rattle.acceptance.proofs.Rows.{part-row, rowOf, row-below, entry-is, row-kind, row-count, parts, row-kinds, own-number, code-count, code-row}
 use Rattle.acceptance.specs.ProcedureRows.{Layout, InCode, InOne}
@@ -104,8 +105,8 @@ module _ (t : List ℕ) (n : ℕ) (long : lengthOf t ≡ Accepted (rowCount t)) 
 
   -- no row is misplaced
   placed : (i : ℕ) → i < rowCount t → not (member (aboveAt t i .kind) (getD mayFollow (kindAt t i) [])) ≡ false
-  unfolding faultAt rowFault misplaced kindAt
-  placed i h = unfaulted (misplaced (aboveAt t i) (rowAt t i)) 1 _ (rows-fine t n good i h) .0
+  unfolding faultAt misplaced kindAt
+  placed i h = faultless (aboveAt t i) (rowAt t i) .0 (rows-fine t n good i h) .placed
 
   -- so its kind is one of the seven
   known : (i : ℕ) → i < rowCount t → kindAt t i < 8

@@ -1,4 +1,5 @@
 pub mod Checked
 pub mod Refusals
+pub mod RowRefusals
 pub mod Judged
 pub mod ProcedureRows

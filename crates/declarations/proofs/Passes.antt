@@ -1,7 +1,6 @@
 -- A pass over procedures accepts a table if, and only if, no instruction of a procedure is faulty; else it tells the first one.
 use Prim.Native.Nat.{ℕ, zero, suc, _+_, _<_}
 use mathlib.Core.Path.{_≡_, refl, sym, ap, ap₂}
-use mathlib.Core.Bool.{Bool, true, false, cond}
 use mathlib.Core.List.{List, [], _∷_}
 use mathlib.Core.Logic.{_⊎_, inl, inr, ⊎-elim}
 use native.Mathlib.Nat.{add-zero, zero-add}
@@ -22,11 +21,6 @@ use Rattle.declarations.proofs.Laws.{proceduresOf}
 -- a refusal is no acceptance
 pub refused-accepted : {number row n : ℕ} → Refused number row ≡ Accepted n → ⊥
 refused-accepted e = let z : _≡_ {A = ℕ} 0 1 = cc in omega arith
-
--- a fault number of 0: the test fails, and the rest gives 0
-pub unfaulted : (b : Bool) (f rest : ℕ) → cond b (suc f) rest ≡ 0 → (b ≡ false) × (rest ≡ 0)
-unfaulted true f rest e = absurd (omega arith)
-unfaulted false f rest e = (refl, e)
 
 -- what two passes in a row accept, each accepts
 pub both-accept : (v later : Verdict) (n : ℕ) → andThen v later ≡ Accepted n → (v ≡ Accepted (valueOf v)) × (later ≡ Accepted n)

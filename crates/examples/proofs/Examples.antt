@@ -4,7 +4,7 @@ use mathlib.Core.List.{List, _++_, map, map-append}
 use Rattle.judging.specs.Judging.{judgeOf}
 use Rattle.semantics.specs.Machine.{Entry}
 use Rattle.semantics.specs.Run.{runOf}
-use Rattle.examples.specs.Examples.{Example, Answer, judgingRows, judgingWalks, judgingMarks, judgingOverwritten, judgingReadOnly, judgingHanded, runningCalls, runningLimits, examples, line, given, expected, answered, answers}
+use Rattle.examples.specs.Examples.{Example, Answer, judgingRows, judgingValues, judgingWalks, judgingMarks, judgingOverwritten, judgingReadOnly, judgingHanded, runningCalls, runningLimits, examples, line, given, expected, answered, answers}
 use Rattle.examples.proofs.Rules.{rules}
 
 -- what the rules answer to an example; that they answer some examples as stated
@@ -17,6 +17,10 @@ Hold es = map told es ≡ map given es
 rows-hold : Hold judgingRows
 unfolding Hold rules judgingRows
 rows-hold = refl
+
+values-hold : Hold judgingValues
+unfolding Hold rules judgingValues
+values-hold = refl
 
 walks-hold : Hold judgingWalks
 unfolding Hold rules judgingWalks
@@ -50,8 +54,8 @@ both : (xs ys : List Example) → Hold xs → Hold ys → Hold (xs ++ ys)
 unfolding Hold
 both xs ys hx hy = rw (map-append told xs ys, map-append given xs ys, hx, hy) refl
 
-parts-hold : Hold (judgingRows ++ judgingWalks ++ judgingMarks ++ judgingOverwritten ++ judgingReadOnly ++ judgingHanded ++ runningCalls ++ runningLimits)
-parts-hold = both _ _ (both _ _ (both _ _ (both _ _ (both _ _ (both _ _ (both _ _ rows-hold walks-hold) marks-hold) overwritten-hold) read-only-hold) handed-hold) calls-hold) limits-hold
+parts-hold : Hold (judgingRows ++ judgingValues ++ judgingWalks ++ judgingMarks ++ judgingOverwritten ++ judgingReadOnly ++ judgingHanded ++ runningCalls ++ runningLimits)
+parts-hold = both _ _ (both _ _ (both _ _ (both _ _ (both _ _ (both _ _ (both _ _ (both _ _ rows-hold values-hold) walks-hold) marks-hold) overwritten-hold) read-only-hold) handed-hold) calls-hold) limits-hold
 
 pub all-hold : answers judgeOf (runOf (λ (es : List Entry). es)) ≡ expected
 unfolding Hold examples answers expected

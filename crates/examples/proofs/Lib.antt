@@ -1,4 +1,5 @@
 pub mod Rules
 pub mod Examples
+pub mod Bytes
 pub mod Speaks
 pub mod Weaker

@@ -8,7 +8,7 @@ use Rattle.table.specs.declared.Verdict.{Verdict}
 use Rattle.table.specs.declared.Verdict.the-variants.{Accepted, Refused}
 use Rattle.semantics.specs.Ascii.{ascii}
 use Rattle.semantics.specs.Run.{Ran, minText}
-use Rattle.examples.specs.Tables.{row, table, trusted, guest, type, number, guarded, public, private, parameter, local, code, pop, loadConst, mvLoc, cpLoc, stLoc, borrowFld, readRef, pack, moveTo, callProcedure, ret, branch, branchCond, subtract, call, argument, rowsS, rowsT, rowsRound, with-row, without-row, times, rowsLent, rowsShown, rowsTakesTwo, rowsMarkedOnFallThrough, rowsMarkedOnJump, rowsOverwrittenOnce, rowsOverwrittenTwice, rowsOps, rowsLoop, rowsClosed, rowsWritten, rowsTwo, rowsNested, rowsGuest, callsGuest, rowsRefilled, rowsEmptied, rowsReturned, rowsStale, rowsDeep, rowsMany, rowsFull, result, borrowLoc, writeRef, freeze, rowsLabel, callsLabel, rowsSeen, rowsFrozenStale, rowsTakesOne}
+use Rattle.examples.specs.Tables.{row, table, trusted, guest, type, number, guarded, public, private, parameter, local, code, pop, loadConst, mvLoc, cpLoc, stLoc, exists, moveFrom, unpack, borrowFld, readRef, pack, moveTo, callProcedure, ret, branch, branchCond, subtract, call, argument, rowsS, rowsT, rowsRound, with-row, without-row, times, rowsLent, rowsShown, rowsTakesTwo, rowsMarkedOnFallThrough, rowsMarkedOnJump, rowsOverwrittenOnce, rowsOverwrittenTwice, rowsOps, rowsLoop, rowsClosed, rowsWritten, rowsTwo, rowsNested, rowsGuest, callsGuest, rowsRefilled, rowsEmptied, rowsReturned, rowsStale, rowsDeep, rowsMany, rowsFull, result, borrowLoc, writeRef, freeze, rowsLabel, callsLabel, rowsSeen, rowsFrozenStale, rowsTakesOne}
 
 -- an example: the bytes of a table and its verdict; or a table, a call list and the length of a text buffer, with the answer and the text
 pub data Example : Type 0 where
@@ -29,29 +29,32 @@ refuses t l room number row = running t l room (Refused number row) []
 unfoldable pub line : String → List ℕ
 line words = ascii words ++ ascii "\n"
 
--- length, rows, names and operands: refusals 1 to 10
+-- length, rows, names and operands: refusals 1 to 10, 18 and 19
 unfoldable pub judgingRows : List Example
 judgingRows =
     -- document 01: no bytes; T less one byte; row 0 guest
     gives [] (Refused 1 0)
     ∷ gives (take 255 (table rowsT)) (Refused 1 0)
-    ∷ gives (table (with-row 0 guest rowsT)) (Refused 4 2)
+    ∷ gives (table (with-row 0 guest rowsT)) (Refused 19 2)
     -- 2: row 0 not a module; a kind that is unknown; a field below a module
     ∷ gives (table (type ∷ [])) (Refused 2 0)
     ∷ gives (table (guest ∷ row 8 0 0 0 0 ∷ [])) (Refused 2 1)
     ∷ gives (table (guest ∷ number ∷ [])) (Refused 2 1)
+    ∷ gives (table (guest ∷ row 0 0 0 0 0 ∷ [])) (Refused 2 1)
     -- 3: a 17th module; a ninth field; a 17th local
     ∷ gives (table (times 17 guest)) (Refused 3 16)
     ∷ gives (table (guest ∷ type ∷ times 9 number)) (Refused 3 10)
     ∷ gives (table (guest ∷ public ∷ times 17 (local 0 0) ++ (ret ∷ []))) (Refused 3 18)
-    -- 4: an unused byte; a parameter after another local; C of 256; opcode 21; Op 4; a guarded record; sort 6
+    -- nine locals in each of two procedures: each has its own
+    ∷ gives (table (guest ∷ public ∷ times 9 (local 0 0) ++ (ret ∷ public ∷ times 9 (local 0 0) ++ (ret ∷ [])))) (Accepted 23)
+    -- 4: an unused byte; 18: a parameter after another local, C of 256, opcode 21, Op 4, sort 6; 19: a guarded record
     ∷ gives (table (guest ∷ row 2 1 0 0 0 ∷ [])) (Refused 4 1)
-    ∷ gives (table (guest ∷ public ∷ local 0 0 ∷ parameter 0 0 ∷ [])) (Refused 4 3)
-    ∷ gives (table (guest ∷ public ∷ row 5 0 0 256 0 ∷ [])) (Refused 4 2)
-    ∷ gives (table (guest ∷ public ∷ code 21 0 ∷ [])) (Refused 4 2)
-    ∷ gives (table (guest ∷ public ∷ code 19 4 ∷ [])) (Refused 4 2)
-    ∷ gives (table (trusted ∷ type ∷ type ∷ row 3 1 0 1 0 ∷ [])) (Refused 4 3)
-    ∷ gives (table (guest ∷ public ∷ local 6 0 ∷ ret ∷ [])) (Refused 4 2)
+    ∷ gives (table (guest ∷ public ∷ local 0 0 ∷ parameter 0 0 ∷ [])) (Refused 18 3)
+    ∷ gives (table (guest ∷ public ∷ row 5 0 0 256 0 ∷ [])) (Refused 18 2)
+    ∷ gives (table (guest ∷ public ∷ code 21 0 ∷ [])) (Refused 18 2)
+    ∷ gives (table (guest ∷ public ∷ code 19 4 ∷ [])) (Refused 18 2)
+    ∷ gives (table (guest ∷ public ∷ local 6 0 ∷ ret ∷ [])) (Refused 18 2)
+    ∷ gives (table (trusted ∷ type ∷ type ∷ row 3 1 0 1 0 ∷ [])) (Refused 19 3)
     -- two faults on one row: a 17th module with A = 2; on two rows: the upper one decides
     ∷ gives (table (times 16 guest ++ (row 1 2 0 0 0 ∷ []))) (Refused 3 16)
     ∷ gives (table (guest ∷ row 2 1 0 0 0 ∷ row 9 0 0 0 0 ∷ [])) (Refused 4 1)
@@ -59,6 +62,9 @@ judgingRows =
     ∷ gives (table rowsS) (Accepted 10)
     ∷ gives (table (with-row 9 pop rowsS)) (Refused 5 3)
     ∷ gives (table (without-row 7 rowsS)) (Refused 7 7)
+    -- two results; records and references of type 1 in locals and results, and in MoveFrom, Unpack and Exists
+    ∷ gives (table (guest ∷ type ∷ type ∷ public ∷ parameter 3 1 ∷ parameter 5 1 ∷ parameter 0 0 ∷ local 1 1 ∷ result 3 1 ∷ result 5 1
+    ∷ cpLoc 2 ∷ exists 1 ∷ pop ∷ cpLoc 2 ∷ moveFrom 1 ∷ stLoc 3 ∷ mvLoc 3 ∷ unpack 1 ∷ mvLoc 0 ∷ mvLoc 1 ∷ ret ∷ [])) (Accepted 21)
     -- 5: no instructions
     ∷ gives (table (guest ∷ public ∷ [])) (Refused 5 1)
     -- 6: a type, a target and a lower type that are not there
@@ -82,6 +88,53 @@ judgingRows =
     ∷ gives (table (guest ∷ public ∷ branch 2 ∷ pop ∷ ret ∷ [])) (Refused 7 3)
     -- a jump in a row that no walk reaches starts a block at its target: the row above it leaves an operand
     ∷ gives (table (guest ∷ public ∷ loadConst 0 ∷ pop ∷ ret ∷ branch 1 ∷ [])) (Refused 9 2)
+    ∷ []
+
+-- rows: an unused byte, a value not allowed and a guard misplaced, alone and together: refusals 4, 18 and 19
+unfoldable pub judgingValues : List Example
+judgingValues =
+    -- 4: B of a number field; C of a result; the second byte of D of a module
+    gives (table (guest ∷ type ∷ row 3 0 1 0 0 ∷ [])) (Refused 4 2)
+    ∷ gives (table (guest ∷ public ∷ row 6 0 0 1 0 ∷ ret ∷ [])) (Refused 4 2)
+    ∷ gives (table (row 1 0 0 0 256 ∷ [])) (Refused 4 0)
+    -- 18: A of 2 in a module, in a field and in a procedure; C of 2 in a local
+    ∷ gives (table (row 1 2 0 0 0 ∷ [])) (Refused 18 0)
+    ∷ gives (table (guest ∷ type ∷ row 3 2 0 0 0 ∷ [])) (Refused 18 2)
+    ∷ gives (table (guest ∷ row 4 2 0 0 0 ∷ [])) (Refused 18 1)
+    ∷ gives (table (guest ∷ public ∷ row 5 0 0 2 0 ∷ [])) (Refused 18 2)
+    -- a parameter below a parameter and two other locals; a procedure starts its locals anew
+    ∷ gives (table (guest ∷ public ∷ parameter 0 0 ∷ local 0 0 ∷ local 0 0 ∷ parameter 0 0 ∷ [])) (Refused 18 5)
+    ∷ gives (table (guest ∷ public ∷ local 0 0 ∷ ret ∷ public ∷ parameter 0 0 ∷ ret ∷ [])) (Accepted 7)
+    -- 19: the nearest module decides: a guard below a guest below a trusted module; below a trusted module below a guest
+    ∷ gives (table (trusted ∷ guest ∷ type ∷ guarded ∷ [])) (Refused 19 3)
+    ∷ gives (table (guest ∷ trusted ∷ type ∷ guarded ∷ [])) (Accepted 4)
+    -- 4 before 18 on one row: opcode 21, and Op 4, with C of 1; a parameter after another local with D of 1
+    ∷ gives (table (guest ∷ public ∷ row 7 21 0 1 0 ∷ [])) (Refused 4 2)
+    ∷ gives (table (guest ∷ public ∷ row 7 19 4 1 0 ∷ [])) (Refused 4 2)
+    ∷ gives (table (guest ∷ public ∷ local 0 0 ∷ row 5 0 0 1 1 ∷ [])) (Refused 4 3)
+    -- 4 before 19: a guarded record, and a guard in a guest, with D of 1
+    ∷ gives (table (trusted ∷ type ∷ type ∷ row 3 1 0 1 1 ∷ [])) (Refused 4 3)
+    ∷ gives (table (guest ∷ type ∷ row 3 0 0 1 1 ∷ [])) (Refused 4 2)
+    -- 18 before 19: C of 2 in a guest's field; a guard in a guest on a field whose A is 2
+    ∷ gives (table (guest ∷ type ∷ row 3 0 0 2 0 ∷ [])) (Refused 18 2)
+    ∷ gives (table (guest ∷ type ∷ row 3 2 0 1 0 ∷ [])) (Refused 18 2)
+    -- beside an A that is not allowed, what some allowed A uses counts as used: B and D of an instruction, B and C of a local and of a field, B of a result
+    ∷ gives (table (guest ∷ public ∷ row 7 21 1 0 1 ∷ [])) (Refused 18 2)
+    ∷ gives (table (guest ∷ public ∷ row 5 6 1 1 0 ∷ [])) (Refused 18 2)
+    ∷ gives (table (guest ∷ type ∷ row 3 2 1 1 0 ∷ [])) (Refused 18 2)
+    ∷ gives (table (guest ∷ public ∷ row 6 6 1 0 0 ∷ [])) (Refused 18 2)
+    -- and what none uses does not: D of a local, C of a result, B of a procedure
+    ∷ gives (table (guest ∷ public ∷ row 5 6 0 0 1 ∷ [])) (Refused 4 2)
+    ∷ gives (table (guest ∷ public ∷ row 6 6 0 1 0 ∷ [])) (Refused 4 2)
+    ∷ gives (table (guest ∷ row 4 2 1 0 0 ∷ [])) (Refused 4 1)
+    -- 2 and 3 before 18 and 19 on one row: a field below a module; a ninth field of a guest, guarded
+    ∷ gives (table (guest ∷ row 3 2 0 1 0 ∷ [])) (Refused 2 1)
+    ∷ gives (table (guest ∷ type ∷ times 8 number ++ (guarded ∷ []))) (Refused 3 10)
+    -- on two rows the upper one decides: 19 above 2; 18 above 4; 18 and 19 are of the rows pass, before 5 at an upper row
+    ∷ gives (table (guest ∷ type ∷ guarded ∷ row 9 0 0 0 0 ∷ [])) (Refused 19 2)
+    ∷ gives (table (guest ∷ public ∷ code 19 4 ∷ row 7 0 1 0 0 ∷ [])) (Refused 18 2)
+    ∷ gives (table (guest ∷ public ∷ public ∷ code 21 0 ∷ [])) (Refused 18 3)
+    ∷ gives (table (trusted ∷ public ∷ guest ∷ type ∷ guarded ∷ [])) (Refused 19 4)
     ∷ []
 
 -- locals and leaks: refusals 11 to 14
@@ -228,7 +281,7 @@ runningLimits =
 
 -- all of them
 unfoldable pub examples : List Example
-examples = judgingRows ++ judgingWalks ++ judgingMarks ++ judgingOverwritten ++ judgingReadOnly ++ judgingHanded ++ runningCalls ++ runningLimits
+examples = judgingRows ++ judgingValues ++ judgingWalks ++ judgingMarks ++ judgingOverwritten ++ judgingReadOnly ++ judgingHanded ++ runningCalls ++ runningLimits
 
 -- what an example is answered with
 pub data Answer : Type 0 where

@@ -1,4 +1,5 @@
 pub mod Tables
 pub mod Examples
+pub mod Bytes
 pub mod Speaks
 pub mod Weaker

@@ -3,3 +3,4 @@ pub mod Laws
 pub mod Values
 pub mod Accepts
 pub mod Numbers
+pub mod Before

@@ -1,14 +1,14 @@
--- Each pass refuses with its own numbers: 1 length; 2, 3, 4 rows; 5, 6 names; 7 to 10 operands; 11, 12 locals; 13, 14 leaks. So the number of a refusal
--- tells which passes accept.
-use Prim.Native.Nat.{ℕ, zero, suc, _+_, _%_, _≤_}
+-- Each pass refuses with its own numbers: 1 length; 2, 3, 4, 18, 19 rows; 5, 6 names; 7 to 10 operands; 11, 12 locals; 13, 14 leaks. So the number of a
+-- refusal tells which passes accept.
+use Prim.Native.Nat.{ℕ, zero, suc, _+_, _%_}
 use mathlib.Core.Path.{_≡_, refl, sym, _∙_}
-use mathlib.Core.Bool.{Bool, true, false, cond, not, _&&_, _||_}
-use mathlib.Core.List.{List, [], _∷_}
+use mathlib.Core.Bool.{Bool, true, false, cond, not, _&&_, _||_, false≢true}
+use mathlib.Core.List.{List, [], _∷_, _++_}
 use mathlib.Core.Logic.{_⊎_, inl, inr}
-use native.Mathlib.Omega.{arith}
 use lib.Dec.{eqb, ltb}
 use lib.ListN.{length}
-use Rattle.laws.specs.Lists.{none}
+use Rattle.laws.specs.Lists.{member, none}
+use Rattle.laws.proofs.Lists.{disjoint, not-in, in-first, in-second}
 use Rattle.laws.proofs.First.{Stops, clean-or-stops}
 use Rattle.table.specs.declared.Row.{Row}
 use Rattle.table.specs.declared.Verdict.{Verdict}
@@ -17,6 +17,7 @@ use Rattle.table.specs.declared.index.Index.{Index}
 use Rattle.table.specs.declared.index.TypeEntry.{TypeEntry}
 use Rattle.table.specs.declared.index.ProcedureEntry.{ProcedureEntry}
 use Rattle.table.specs.Format.{procedureKind, maxOperands, opStLoc, opCall, opRet}
+use Rattle.table.specs.Refusals.{badLength, badPlace, overLimit, dirtyByte, wrongValue, wrongGuard, openEnd, notDeclared, wrongOperand, tooManyOperands, operandsLeft, foreignName, emptyLocal, lostRecord, markGiven, markReturned, lengthRefusals, rowRefusals, nameRefusals, operandRefusals, localRefusals, leakRefusals}
 use Rattle.table.specs.Rows.{rowCount, rowAt}
 use Rattle.table.specs.Verdicts.{andThen, valueOf, passOver}
 use Rattle.table.specs.Index.{indexOf}
@@ -37,63 +38,63 @@ use Rattle.judging.proofs.Laws.{accepted-here}
 use Rattle.judging.proofs.Accepts.{length-rows, over-rows, code-rows}
 
 -- no fault, or one of these numbers
-abbrev Within : ℕ → ℕ → ℕ → Type 0
-Within lo hi f = (f ≡ 0) ⊎ ((lo ≤ f) × (f ≤ hi))
+abbrev Among : List ℕ → ℕ → Type 0
+Among numbers f = (f ≡ 0) ⊎ (member f numbers ≡ true)
 
 -- a test for one of these numbers
-one : (b : Bool) (lo hi k rest : ℕ) → (lo ≤ k) × (k ≤ hi) → Within lo hi rest → Within lo hi (cond b k rest)
-one true lo hi k rest h w = inr h
-one false lo hi k rest h w = w
+one : (b : Bool) (numbers : List ℕ) (k rest : ℕ) → member k numbers ≡ true → Among numbers rest → Among numbers (cond b k rest)
+one true numbers k rest h w = inr h
+one false numbers k rest h w = w
 
 -- what is no 0 is one of these
-in-range : (lo hi f : ℕ) → Within lo hi f → (f ≡ 0 → ⊥) → (lo ≤ f) × (f ≤ hi)
-in-range lo hi f (inl e) n = absurd (n e)
-in-range lo hi f (inr h) n = h
+is-one : (numbers : List ℕ) (f : ℕ) → Among numbers f → (f ≡ 0 → ⊥) → member f numbers ≡ true
+is-one numbers f (inl e) n = absurd (n e)
+is-one numbers f (inr h) n = h
 
 -- a pass over rows, and one over instructions, refuse with one of these numbers
-over-number : (lo hi : ℕ) (f : ℕ → ℕ) → ((i : ℕ) → Within lo hi (f i)) → (n : ℕ) {number row : ℕ} → passOver f n ≡ Refused number row → (lo ≤ number) × (number ≤ hi)
-over-number lo hi f w n {number} {row} e = go (clean-or-stops Accepted Refused f 0 n)
+over-number : (numbers : List ℕ) (f : ℕ → ℕ) → ((i : ℕ) → Among numbers (f i)) → (n : ℕ) {number row : ℕ} → passOver f n ≡ Refused number row → member number numbers ≡ true
+over-number numbers f w n {number} {row} e = go (clean-or-stops Accepted Refused f 0 n)
   where
-    go : (passOver f n ≡ Accepted (0 + n)) ⊎ Stops Accepted Refused f 0 n → (lo ≤ number) × (number ≤ hi)
+    go : (passOver f n ≡ Accepted (0 + n)) ⊎ Stops Accepted Refused f 0 n → member number numbers ≡ true
     go (inl c) = absurd (refused-accepted (sym e ∙ c))
-    go (inr s) = rw (refused-number (sym (s .told) ∙ e)) at (in-range lo hi (f (s .at)) (w (s .at)) (s .faulty))
+    go (inr s) = rw (refused-number (sym (s .told) ∙ e)) at (is-one numbers (f (s .at)) (w (s .at)) (s .faulty))
 
-code-number : (lo hi : ℕ) (fault : ℕ → ProcedureEntry → ℕ → ℕ) → ((q : ℕ) (p : ProcedureEntry) (i : ℕ) → Within lo hi (fault q p i)) → (ix : Index) (t : List ℕ) {number row : ℕ} → codePass fault ix t ≡ Refused number row
-    → (lo ≤ number) × (number ≤ hi)
-code-number lo hi fault w ix t e =
+code-number : (numbers : List ℕ) (fault : ℕ → ProcedureEntry → ℕ → ℕ) → ((q : ℕ) (p : ProcedureEntry) (i : ℕ) → Among numbers (fault q p i)) → (ix : Index) (t : List ℕ) {number row : ℕ} → codePass fault ix t ≡ Refused number row
+    → member number numbers ≡ true
+code-number numbers fault w ix t e =
     let f = pass-first fault t ix e in
-    rw (f .here .number-is) at (in-range lo hi _ (w _ _ _) (f .here .faulty))
+    rw (f .here .number-is) at (is-one numbers _ (w _ _ _) (f .here .faulty))
 
 -- length
-pub length-number : (t : List ℕ) {number row : ℕ} → rows.lengthOf t ≡ Refused number row → number ≡ 1
-unfolding rows.lengthOf
+pub length-number : (t : List ℕ) {number row : ℕ} → rows.lengthOf t ≡ Refused number row → member number lengthRefusals ≡ true
+unfolding rows.lengthOf member
 length-number t {number} {row} = go (eqb (length t) 0 || not (eqb (length t % 16) 0) || ltb 32768 (length t))
   where
-    go : (b : Bool) → cond b (Refused 1 0) (Accepted (rowCount t)) ≡ Refused number row → number ≡ 1
-    go true e = sym (refused-number e)
+    go : (b : Bool) → cond b (Refused badLength 0) (Accepted (rowCount t)) ≡ Refused number row → member number lengthRefusals ≡ true
+    go true e = rw (← refused-number e)
     go false e = absurd (refused-accepted (sym e))
 
 -- rows
-row-low : (s : Above) (row : Row) → Within 2 4 (rows.rowFault s row)
-unfolding rows.rowFault
+row-low : (s : Above) (row : Row) → Among rowRefusals (rows.rowFault s row)
+unfolding rows.rowFault member
 row-low s row =
-    one (rows.misplaced s row) 2 4 2 _ (omega arith) (one (rows.tooMany s row) 2 4 3 _ (omega arith) (one (rows.unusedByte row) 2 4 4 _ (omega arith)
-    (one (rows.badValue s row) 2 4 4 _ (omega arith) (one (rows.badGuard s row) 2 4 4 0 (omega arith) (inl refl)))))
+    one (rows.misplaced s row) rowRefusals badPlace _ refl (one (rows.tooMany s row) rowRefusals overLimit _ refl (one (rows.unusedByte row) rowRefusals dirtyByte _ refl
+    (one (rows.badValue s row) rowRefusals wrongValue _ refl (one (rows.badGuard s row) rowRefusals wrongGuard 0 refl (inl refl)))))
 
-pub rows-number : (t : List ℕ) {number row : ℕ} → rows.rowsOf t ≡ Refused number row → (2 ≤ number) × (number ≤ 4)
+pub rows-number : (t : List ℕ) {number row : ℕ} → rows.rowsOf t ≡ Refused number row → member number rowRefusals ≡ true
 unfolding rows.rowsOf rows.faultAt
-rows-number t = over-number 2 4 (rows.faultAt t) (λ i. row-low (rows.aboveAt t i) (rowAt t i)) (rowCount t)
+rows-number t = over-number rowRefusals (rows.faultAt t) (λ i. row-low (rows.aboveAt t i) (rowAt t i)) (rowCount t)
 
 -- names
-name-low : (t : List ℕ) (types procedures above : ℕ) (named : TypeEntry) (own starts : ProcedureEntry) (row : Row) → Within 5 6 (names.nameFault t types procedures above named own starts row)
-unfolding names.nameFault
+name-low : (t : List ℕ) (types procedures above : ℕ) (named : TypeEntry) (own starts : ProcedureEntry) (row : Row) → Among nameRefusals (names.nameFault t types procedures above named own starts row)
+unfolding names.nameFault member
 name-low t types procedures above named own starts row =
-    one (eqb (row .kind) procedureKind && names.badEnd t starts) 5 6 5 _ (omega arith) (one (names.notLower above row) 5 6 6 _ (omega arith)
-    (one (names.noSuchType types row) 5 6 6 _ (omega arith) (one (names.noSuchName types procedures named own row) 5 6 6 0 (omega arith) (inl refl))))
+    one (eqb (row .kind) procedureKind && names.badEnd t starts) nameRefusals openEnd _ refl (one (names.notLower above row) nameRefusals notDeclared _ refl
+    (one (names.noSuchType types row) nameRefusals notDeclared _ refl (one (names.noSuchName types procedures named own row) nameRefusals notDeclared 0 refl (inl refl))))
 
-pub names-number : (t : List ℕ) {number row : ℕ} → names.namesOf t ≡ Refused number row → (5 ≤ number) × (number ≤ 6)
+pub names-number : (t : List ℕ) {number row : ℕ} → names.namesOf t ≡ Refused number row → member number nameRefusals ≡ true
 unfolding names.namesOf names.namesWith names.faultAt
-names-number t = over-number 5 6 (names.faultAt t (indexOf t)) (λ i. name-low t (indexOf t .types) (indexOf t .procedures) _ _ _ _ (rowAt t i)) (rowCount t)
+names-number t = over-number nameRefusals (names.faultAt t (indexOf t)) (λ i. name-low t (indexOf t .types) (indexOf t .procedures) _ _ _ _ (rowAt t i)) (rowCount t)
 
 -- operands: the fault that is kept with the kinds is 7 or 8
 abbrev kept : Kinds → ℕ
@@ -101,13 +102,15 @@ kept (good ks) = 0
 kept (bad f) = f
 
 abbrev Low : Kinds → Type 0
-Low s = Within 7 10 (kept s)
+Low s = Among operandRefusals (kept s)
 
-low-7 : Low (bad 7)
-low-7 = inr (omega arith)
+low-7 : Low (bad wrongOperand)
+unfolding member
+low-7 = inr refl
 
-low-8 : Low (bad 8)
-low-8 = inr (omega arith)
+low-8 : Low (bad tooManyOperands)
+unfolding member
+low-8 = inr refl
 
 choice : (b : Bool) (s r : Kinds) → Low s → Low r → Low (cond b s r)
 choice true s r x y = x
@@ -116,12 +119,12 @@ choice false s r x y = y
 taken-low : (k : ℕ) (s : Kinds) → Low s → Low (taken k s)
 unfolding taken
 taken-low k (good []) w = low-7
-taken-low k (good (x ∷ xs)) w = choice (eqb x k) (good xs) (bad 7) (inl refl) low-7
+taken-low k (good (x ∷ xs)) w = choice (eqb x k) (good xs) (bad wrongOperand) (inl refl) low-7
 taken-low k (bad f) w = w
 
 pushed-low : (k : ℕ) (s : Kinds) → Low s → Low (pushed k s)
 unfolding pushed
-pushed-low k (good xs) w = choice (ltb (length xs) maxOperands) (good (k ∷ xs)) (bad 8) (inl refl) low-8
+pushed-low k (good xs) w = choice (ltb (length xs) maxOperands) (good (k ∷ xs)) (bad tooManyOperands) (inl refl) low-8
 pushed-low k (bad f) w = w
 
 all-taken-low : (ks : List ℕ) (s : Kinds) → Low s → Low (takenAll ks s)
@@ -134,7 +137,7 @@ unfolding pushedAll
 all-pushed-low [] s w = w
 all-pushed-low (k ∷ ks) s w = all-pushed-low ks (pushed k s) (pushed-low k s w)
 
-failed-low : (s : Kinds) → Low s → Low (failed 7 s)
+failed-low : (s : Kinds) → Low s → Low (failed wrongOperand s)
 unfolding failed
 failed-low (good ks) w = low-7
 failed-low (bad f) w = w
@@ -153,46 +156,46 @@ module _ (t : List ℕ) (ix : Index) (p : ProcedureEntry) where
   before-low zero = inl refl
   before-low (suc i) = choice (lastOfBlock (codeOf t p) i) (good []) _ (inl refl) (after-low i _ (before-low i))
 
-  told-low : (s : Kinds) (last other : Bool) → Low s → Within 7 10 (faultAfter s last other)
-  unfolding faultAfter
+  told-low : (s : Kinds) (last other : Bool) → Low s → Among operandRefusals (faultAfter s last other)
+  unfolding faultAfter member
   told-low (bad f) last other w = w
-  told-low (good ks) last other w = one (last && not (none ks)) 7 10 9 _ (omega arith) (one other 7 10 10 0 (omega arith) (inl refl))
+  told-low (good ks) last other w = one (last && not (none ks)) operandRefusals operandsLeft _ refl (one other operandRefusals foreignName 0 refl (inl refl))
 
-  code-low : (i : ℕ) → Within 7 10 (codeFault t ix p i)
+  code-low : (i : ℕ) → Among operandRefusals (codeFault t ix p i)
   unfolding codeFault
   code-low i = told-low _ _ _ (after-low i _ (before-low i))
 
-pub operands-number : (t : List ℕ) {number row : ℕ} → operandsOf t ≡ Refused number row → (7 ≤ number) × (number ≤ 10)
+pub operands-number : (t : List ℕ) {number row : ℕ} → operandsOf t ≡ Refused number row → member number operandRefusals ≡ true
 unfolding operandsOf operandsWith
-operands-number t = code-number 7 10 _ (λ q p i. code-low t (indexOf t) p i) (indexOf t) t
+operands-number t = code-number operandRefusals _ (λ q p i. code-low t (indexOf t) p i) (indexOf t) t
 
 -- locals
-local-low : (t : List ℕ) (p : ProcedureEntry) (i : ℕ) → Within 11 12 (localFault t p i)
-unfolding localFault
+local-low : (t : List ℕ) (p : ProcedureEntry) (i : ℕ) → Among localRefusals (localFault t p i)
+unfolding localFault member
 local-low t p i =
     let row = rowAt (codeOf t p) i in
-    one (needsFull (row .a) && leavesEmpty t p (row .b) i) 11 12 11 _ (omega arith) (one (eqb (row .a) opStLoc && leavesRecord t p (row .b) i) 11 12 12 _ (omega arith)
-    (one (eqb (row .a) opRet && leavesSome t p (localCount p) i) 11 12 12 0 (omega arith) (inl refl)))
+    one (needsFull (row .a) && leavesEmpty t p (row .b) i) localRefusals emptyLocal _ refl (one (eqb (row .a) opStLoc && leavesRecord t p (row .b) i) localRefusals lostRecord _ refl
+    (one (eqb (row .a) opRet && leavesSome t p (localCount p) i) localRefusals lostRecord 0 refl (inl refl)))
 
-pub locals-number : (t : List ℕ) {number row : ℕ} → localsOf t ≡ Refused number row → (11 ≤ number) × (number ≤ 12)
+pub locals-number : (t : List ℕ) {number row : ℕ} → localsOf t ≡ Refused number row → member number localRefusals ≡ true
 unfolding localsOf
-locals-number t = code-number 11 12 _ (λ q. local-low t) (indexOf t) t
+locals-number t = code-number localRefusals _ (λ q. local-low t) (indexOf t) t
 
 -- leaks
-leak-low : (t : List ℕ) (ix : Index) (q : ℕ) (p : ProcedureEntry) (i : ℕ) → Within 13 14 (leakFault t ix q p i)
-unfolding leakFault leakFrom leakIn
+leak-low : (t : List ℕ) (ix : Index) (q : ℕ) (p : ProcedureEntry) (i : ℕ) → Among leakRefusals (leakFault t ix q p i)
+unfolding leakFault leakFrom leakIn member
 leak-low t ix q p i =
     let op = rowAt (codeOf t p) i .a in
     let marked = someMarked (marksOf t ix (guardedMarks t) q p) i (effectIn t ix p number i .takes) in
-    when (inTrusted t ix p) _ (one (eqb op opCall && marked) 13 14 13 _ (omega arith) (one (eqb op opRet && marked) 13 14 14 0 (omega arith) (inl refl)))
+    when (inTrusted t ix p) _ (one (eqb op opCall && marked) leakRefusals markGiven _ refl (one (eqb op opRet && marked) leakRefusals markReturned 0 refl (inl refl)))
   where
-    when : (b : Bool) (f : ℕ) → Within 13 14 f → Within 13 14 (cond b f 0)
+    when : (b : Bool) (f : ℕ) → Among leakRefusals f → Among leakRefusals (cond b f 0)
     when true f w = w
     when false f w = inl refl
 
-pub leaks-number : (t : List ℕ) {number row : ℕ} → leaksOf t ≡ Refused number row → (13 ≤ number) × (number ≤ 14)
+pub leaks-number : (t : List ℕ) {number row : ℕ} → leaksOf t ≡ Refused number row → member number leakRefusals ≡ true
 unfolding leaksOf
-leaks-number t = code-number 13 14 _ (leak-low t (indexOf t)) (indexOf t) t
+leaks-number t = code-number leakRefusals _ (leak-low t (indexOf t)) (indexOf t) t
 
 -- a pass that does not refuse so accepts, and a later one refuses so
 passed : (pass : List ℕ → Verdict) (later : List (List ℕ → Verdict)) (t : List ℕ) {number row : ℕ} → inOrder (pass ∷ later) t ≡ Refused number row → (pass t ≡ Refused number row → ⊥)
@@ -204,22 +207,58 @@ passed pass later t {number} {row} e other = go (pass t) (λ z. other z) e
     go (Accepted n) other e = (refl, e)
     go (Refused a b) other e = absurd (other e)
 
--- where a number above 10 is refused, the passes before locals accept
-pub late : (t : List ℕ) {number row : ℕ} → judgeOf t ≡ Refused number row → 11 ≤ number → UpToOperands t × (inOrder (localsOf ∷ leaksOf ∷ []) t ≡ Refused number row)
-unfolding judgeOf passes rows.rowsOf names.namesOf names.namesWith operandsOf operandsWith
-late t e h =
-    let l = passed rows.lengthOf _ t e (λ z. omega (arith, h, length-number t z)) in
-    let r = passed rows.rowsOf _ t (l .1) (λ z. omega (arith, h, rows-number t z)) in
-    let n = passed names.namesOf _ t (r .1) (λ z. omega (arith, h, names-number t z)) in
-    let o = passed operandsOf (localsOf ∷ leaksOf ∷ []) t (n .1) (λ z. omega (arith, h, operands-number t z)) in (
-      record {
-        byLength = length-rows t _ (l .0);
-        byRows = over-rows _ (rowCount t) _ (r .0);
-        byNames = over-rows _ (rowCount t) _ (n .0);
-        byOperands = code-rows _ (indexOf t) t _ (o .0);
-      },
-      o .1,
-    )
+-- the passes after rows refuse with their numbers
+then-number : (pass : List ℕ → Verdict) (later : List (List ℕ → Verdict)) (own others : List ℕ) (t : List ℕ) {number row : ℕ} → (pass t ≡ Refused number row → member number own ≡ true)
+    → (inOrder later t ≡ Refused number row → member number others ≡ true) → inOrder (pass ∷ later) t ≡ Refused number row → member number (own ++ others) ≡ true
+unfolding inOrder
+then-number pass later own others t {number} {row} mine rest e = go (pass t) (λ z. mine z) e
+  where
+    go : (v : Verdict) → (v ≡ Refused number row → member number own ≡ true) → andThen v (inOrder later t) ≡ Refused number row → member number (own ++ others) ≡ true
+    go (Accepted n) mine e = in-second own others number (rest e)
+    go (Refused a b) mine e = in-first own others number (mine e)
+
+abbrev pub laterRefusals : List ℕ
+laterRefusals = nameRefusals ++ (operandRefusals ++ (localRefusals ++ (leakRefusals ++ [])))
+
+pub after-rows : (t : List ℕ) {number row : ℕ} → inOrder (names.namesOf ∷ operandsOf ∷ localsOf ∷ leaksOf ∷ []) t ≡ Refused number row → member number laterRefusals ≡ true
+unfolding inOrder
+after-rows t =
+    then-number names.namesOf (operandsOf ∷ localsOf ∷ leaksOf ∷ []) nameRefusals _ t (names-number t) (then-number operandsOf (localsOf ∷ leaksOf ∷ []) operandRefusals _ t (operands-number t)
+    (then-number localsOf (leaksOf ∷ []) localRefusals _ t (locals-number t) (then-number leaksOf [] leakRefusals [] t (leaks-number t) (λ e. absurd (refused-accepted (sym e))))))
+
+-- a number of one pass is not that of another
+pub other : (number : ℕ) (numbers own : List ℕ) → disjoint numbers own ≡ true → member number numbers ≡ true → member number own ≡ true → ⊥
+other number numbers own apart h z = false≢true (sym (not-in numbers own number apart h) ∙ z)
+
+module _ (t : List ℕ) {number row : ℕ} where
+  -- 2, 3, 4, 18 and 19: length accepts, and rows refuse
+  pub by-rows : judgeOf t ≡ Refused number row → member number rowRefusals ≡ true → (rows.lengthOf t ≡ Accepted (rowCount t)) × (rows.rowsOf t ≡ Refused number row)
+  unfolding judgeOf passes inOrder disjoint member
+  by-rows e h =
+      let l = passed rows.lengthOf (rows.rowsOf ∷ names.namesOf ∷ operandsOf ∷ localsOf ∷ leaksOf ∷ []) t e (λ z. other number rowRefusals lengthRefusals refl h (length-number t z)) in
+      (length-rows t _ (l .0), go (rows.rowsOf t) (l .1))
+    where
+      go : (v : Verdict) → andThen v (inOrder (names.namesOf ∷ operandsOf ∷ localsOf ∷ leaksOf ∷ []) t) ≡ Refused number row → v ≡ Refused number row
+      go (Accepted n) e = absurd (other number rowRefusals laterRefusals refl h (after-rows t e))
+      go (Refused a b) e = e
+
+  -- 11 to 14: the passes before locals accept, and locals or leaks refuse
+  pub late : judgeOf t ≡ Refused number row → member number (localRefusals ++ leakRefusals) ≡ true → UpToOperands t × (inOrder (localsOf ∷ leaksOf ∷ []) t ≡ Refused number row)
+  unfolding judgeOf passes rows.rowsOf names.namesOf names.namesWith operandsOf operandsWith disjoint member
+  late e h =
+      let walks = localRefusals ++ leakRefusals in
+      let l = passed rows.lengthOf _ t e (λ z. other number walks lengthRefusals refl h (length-number t z)) in
+      let r = passed rows.rowsOf _ t (l .1) (λ z. other number walks rowRefusals refl h (rows-number t z)) in
+      let n = passed names.namesOf _ t (r .1) (λ z. other number walks nameRefusals refl h (names-number t z)) in
+      let o = passed operandsOf (localsOf ∷ leaksOf ∷ []) t (n .1) (λ z. other number walks operandRefusals refl h (operands-number t z)) in (
+        record {
+          byLength = length-rows t _ (l .0);
+          byRows = over-rows _ (rowCount t) _ (r .0);
+          byNames = over-rows _ (rowCount t) _ (n .0);
+          byOperands = code-rows _ (indexOf t) t _ (o .0);
+        },
+        o .1,
+      )
 
 -- where they accept, locals and leaks decide
 pub locals-next : (t : List ℕ) → UpToOperands t → judgeOf t ≡ inOrder (localsOf ∷ leaksOf ∷ []) t

@@ -22,7 +22,8 @@ use Rattle.table.specs.Index.{noProcedure, indexOf, indexedRows, procedureAt, r
 use Rattle.table.specs.Procedures.{inTable, partOf, rowsBetween}
 use Rattle.table.proofs.Laws.{procedure-parts, procedure-locals, procedure-results, procedure-code}
 use Rattle.rows.specs.declared.Above.{Above}
-use Rattle.rows.specs.Rows.{rowsOf, faultAt, rowFault, misplaced, tooMany, aboveAt, belowRow, countBelow, countOf, owned, limits}
+use Rattle.rows.proofs.Faults.{faultless}
+use Rattle.rows.specs.Rows.{rowsOf, faultAt, rowFault, tooMany, aboveAt, belowRow, countBelow, countOf, owned, limits}
 use Rattle.declarations.specs.Program.{Sized, localCount, codeOf, procedureIn, codePass}
 use Rattle.declarations.specs.Limits.{overLimits, limited}
 use Rattle.declarations.proofs.Laws.{procedure-there, limits-hold, limited-in}
@@ -42,13 +43,8 @@ rows-fine t n e i h = all-fine Accepted Refused (faultAt t) apart n 0 (rowCount 
 
 -- a row without fault passes no limit
 within-limit : (s : Above) (row : Row) → rowFault s row ≡ 0 → countOf s (row .kind) < getD limits (row .kind) 0
-unfolding rowFault tooMany
-within-limit s row e = go (misplaced s row) (tooMany s row) refl refl
-  where
-    go : (a b : Bool) → misplaced s row ≡ a → tooMany s row ≡ b → countOf s (row .kind) < getD limits (row .kind) 0
-    go true b p q = absurd (let z : _≡_ {A = ℕ} 2 0 = rw p at e in omega arith)
-    go false true p q = absurd (let z : _≡_ {A = ℕ} 3 0 = rw (p, q) at e in omega arith)
-    go false false p q = leb-false (getD limits (row .kind) 0) (countOf s (row .kind)) q
+unfolding tooMany
+within-limit s row e = leb-false (getD limits (row .kind) 0) (countOf s (row .kind)) (faultless s row .0 e .within)
 
 -- Counts of locals and instructions over a stretch of rows.
 module _ (t : List ℕ) where

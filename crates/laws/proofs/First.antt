@@ -1,6 +1,7 @@
 -- Laws of a pass that stops at its first faulty row, for any answer type and any fault function.
 use Prim.Native.Nat.{ℕ, suc, zero, _+_, _-_, _<_, _≤_}
 use mathlib.Core.Path.{_≡_, refl}
+use mathlib.Core.Bool.{Bool, true, false, cond}
 use mathlib.Core.Logic.{_⊎_, inl, inr}
 use native.Mathlib.Nat.{sub-self, sub-zero, add-zero}
 use native.Mathlib.Decide.{decLt}
@@ -9,6 +10,11 @@ use Rattle.laws.specs.First.{firstFault, unless}
 
 less : (n i : ℕ) → i < n → n - i ≡ suc (n - (i + 1))
 less n i h = omega arith
+
+-- a fault number of 0: the test fails, and the rest gives 0
+pub unfaulted : (b : Bool) (f rest : ℕ) → cond b (suc f) rest ≡ 0 → (b ≡ false) × (rest ≡ 0)
+unfaulted true f rest e = absurd (omega arith)
+unfaulted false f rest e = (refl, e)
 
 unless-bad : {A : Type 0} (f : ℕ) (bad rest : A) → (f ≡ 0 → ⊥) → unless f bad rest ≡ bad
 unless-bad zero bad rest ne = absurd (ne refl)

@@ -1,17 +1,18 @@
 -- Laws of tabulated lists, of the numbers at which a test holds, and of tests over the numbers below n.
 use Prim.Native.Nat.{ℕ, suc, zero, _+_, _-_, _<_, _≤_}
 use mathlib.Core.Path.{_≡_, refl, sym, ap, subst⁻¹, _∙_}
-use mathlib.Core.Bool.{Bool, true, false, cond, _&&_}
+use mathlib.Core.Bool.{Bool, true, false, cond, not, _&&_, _||_, false≢true}
 use mathlib.Core.List.{List, [], _∷_, _++_}
 use mathlib.Core.Logic.{_⊎_, inl, inr}
 use native.Mathlib.Nat.{add-zero}
 use native.Mathlib.Numerals.{add-one}
 use native.Mathlib.Decide.{decLt, ℕ-discrete}
 use native.Mathlib.Omega.{arith}
-use borrow.Author.Tests.{lt-ltb, le-ltb}
+use borrow.Author.Tests.{lt-ltb, le-ltb, eqb-true}
+use lib.Dec.{eqb}
 use lib.ListN.{length, getD, set, replicate, length-append, List·getD-append, List·getD-eq-default, length-set, length-replicate, getD-replicate}
 use lib.Seq.{getD-at, getD-set-same, getD-set-other, ext-getD}
-use Rattle.laws.specs.Lists.{tabulate, hits, find, every, nth, count, entryOf, entries, Listed}
+use Rattle.laws.specs.Lists.{member, tabulate, hits, find, every, nth, count, entryOf, entries, Listed}
 
 less : (n i : ℕ) → i < n → n - i ≡ suc (n - (i + 1))
 less n i h = omega arith
@@ -294,3 +295,47 @@ module _ {A : Type 0} (hit : ℕ → Bool) (entry : ℕ → A) (absent : A) (siz
     pub listed-next : {x : A} {l′ : List A} → hit i ≡ true → x ≡ entry i → Stored size c l x l′ → Listed hit entry absent size (i + 1) (c + 1) l′
     listed-next q e (inl (h, d)) = rw (d, e) (listed-more q h)
     listed-next q e (inr (h, d)) = rw d (listed-full q h)
+
+-- Members of lists of numbers. Two lists that have no number in common, as a test that computes
+unfoldable pub disjoint : List ℕ → List ℕ → Bool
+disjoint [] ys = true
+disjoint (x ∷ xs) ys = not (member x ys) && disjoint xs ys
+
+pub not-in : (xs ys : List ℕ) (x : ℕ) → disjoint xs ys ≡ true → member x xs ≡ true → member x ys ≡ false
+unfolding disjoint member
+not-in [] ys x d h = absurd (false≢true h)
+not-in (y ∷ xs) ys x d h = go (member y ys) refl d (eqb x y) refl h (λ d h. not-in xs ys x d h)
+  where
+    go : (b : Bool) → member y ys ≡ b → (not b && disjoint xs ys) ≡ true → (c : Bool) → eqb x y ≡ c → (c || member x xs) ≡ true → (disjoint xs ys ≡ true → member x xs ≡ true → member x ys ≡ false) → member x ys ≡ false
+    go true q d c e h rest = absurd (false≢true d)
+    go false q d true e h rest = rw (eqb-true x y e) q
+    go false q d false e h rest = rest d h
+
+-- a member of the first, or of the second, of two lists put together
+either : (a : Bool) {b c : Bool} → (b ≡ true → c ≡ true) → (a || b) ≡ true → (a || c) ≡ true
+either true f h = refl
+either false f h = f h
+
+second : (a : Bool) {b : Bool} → b ≡ true → (a || b) ≡ true
+second true h = refl
+second false h = h
+
+pub in-first : (xs ys : List ℕ) (x : ℕ) → member x xs ≡ true → member x (xs ++ ys) ≡ true
+unfolding member
+in-first [] ys x h = absurd (false≢true h)
+in-first (y ∷ xs) ys x h = either (eqb x y) (λ h. in-first xs ys x h) h
+
+pub in-second : (xs ys : List ℕ) (x : ℕ) → member x ys ≡ true → member x (xs ++ ys) ≡ true
+unfolding member
+in-second [] ys x h = h
+in-second (y ∷ xs) ys x h = second (eqb x y) (in-second xs ys x h)
+
+-- one of two
+pub one-of-two : (a b x : ℕ) → member x (a ∷ b ∷ []) ≡ true → (x ≡ a) ⊎ (x ≡ b)
+unfolding member
+one-of-two a b x h = go (eqb x a) refl (eqb x b) refl h
+  where
+    go : (c : Bool) → eqb x a ≡ c → (d : Bool) → eqb x b ≡ d → (c || (d || false)) ≡ true → (x ≡ a) ⊎ (x ≡ b)
+    go true e d f h = inl (eqb-true x a e)
+    go false e true f h = inr (eqb-true x b f)
+    go false e false f h = absurd (false≢true h)

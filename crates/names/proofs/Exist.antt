@@ -9,14 +9,14 @@ use native.Mathlib.Omega.{arith}
 use borrow.Author.Tests.{leb-false, eqb-true, eq-eqb, not-false}
 use lib.Dec.{eqb, leb}
 use Rattle.laws.specs.Lists.{count}
-use Rattle.laws.proofs.First.{all-fine}
+use Rattle.laws.proofs.First.{all-fine, unfaulted}
 use Rattle.table.specs.declared.Verdict.the-variants.{Accepted, Refused}
 use Rattle.table.specs.declared.index.Index.{Index}
 use Rattle.table.specs.declared.index.ProcedureEntry.{ProcedureEntry}
 use Rattle.table.specs.Format.{typeKind, fieldKind, procedureKind, localKind, resultKind, instructionKind, recordSort}
 use Rattle.table.specs.Rows.{rowCount, rowAt, kindAt, isKind}
 use Rattle.declarations.specs.Program.{typeIn, procedureIn}
-use Rattle.declarations.proofs.Passes.{refused-accepted, unfaulted}
+use Rattle.declarations.proofs.Passes.{refused-accepted}
 use Rattle.names.specs.Names.{Named, nothing, localNumber, fieldNumber, typeNumber, procedureNumber, target, missing, badEnd, notLower, noSuchType, noSuchName, nameFault, faultAt, namesWith}
 use Rattle.names.specs.Exist.{Exists, Good}
 

@@ -11,6 +11,7 @@ use native.Mathlib.Omega.{arith}
 use borrow.Author.Tests.{ltb-true, le-leb, eqb-true, eq-eqb, ne-eqb, not-false}
 use lib.Dec.{eqb, ltb}
 use lib.ListN.{length}
+use Rattle.laws.proofs.First.{unfaulted}
 use Rattle.laws.specs.Lists.{none}
 use Rattle.table.specs.declared.Verdict.the-variants.{Accepted}
 use Rattle.table.specs.declared.index.Index.{Index}
@@ -18,7 +19,7 @@ use Rattle.table.specs.declared.index.ProcedureEntry.{ProcedureEntry}
 use Rattle.table.specs.Format.{maxOperands, opBorrowFld, opExists, opCall}
 use Rattle.table.specs.Rows.{rowCount, rowAt}
 use Rattle.declarations.specs.Program.{codeOf, procedureIn, isTarget}
-use Rattle.declarations.proofs.Passes.{unfaulted, pass-fine}
+use Rattle.declarations.proofs.Passes.{pass-fine}
 use Rattle.effects.specs.Kinds.{Kinds, good, bad, failed, taken, pushed, takenAll, pushedAll, topOf, faultAfter}
 use Rattle.effects.specs.Effects.{Effect, applied, kindsAfter}
 use Rattle.operands.specs.Operands.{namedType, lastOfBlock, foreignType, foreign, after, kindsBefore, codeFault, operandsWith}

@@ -13,7 +13,8 @@ use Rattle.laws.proofs.Lists.{every-at}
 use Rattle.table.specs.Format.{pastSorts, pastOpcodes}
 use Rattle.table.specs.declared.Row.{Row}
 use Rattle.rows.specs.declared.Above.{Above}
-use Rattle.rows.specs.Rows.{mayFollow, limits, owned, uses, useOf, usedWith, unused, Use, countBelow, countOf, rowFault, misplaced, tooMany}
+use Rattle.rows.specs.Rows.{mayFollow, limits, owned, uses, useOf, usedWith, unused, Use, countBelow, countOf, rowFault, tooMany}
+use Rattle.rows.proofs.Faults.{faultless}
 
 beq-eq : (a b : Bool) → Bool·beq a b ≡ true → a ≡ b
 beq-eq true true e = refl
@@ -169,10 +170,5 @@ limit-low k = go (decLt k 8)
 
 -- below a row without fault its count stays small
 pub fits-below : (s : Above) (row : Row) → rowFault s row ≡ 0 → countOf s (row .kind) < 65535
-unfolding rowFault tooMany
-fits-below s row e = go (misplaced s row) (tooMany s row) refl refl
-  where
-    go : (a b : Bool) → misplaced s row ≡ a → tooMany s row ≡ b → countOf s (row .kind) < 65535
-    go true b p q = absurd (let z : _≡_ {A = ℕ} 2 0 = rw p at e in omega arith)
-    go false true p q = absurd (let z : _≡_ {A = ℕ} 3 0 = rw (p, q) at e in omega arith)
-    go false false p q = omega (arith, leb-false (getD limits (row .kind) 0) (countOf s (row .kind)) q, limit-low (row .kind))
+unfolding tooMany
+fits-below s row e = omega (arith, leb-false (getD limits (row .kind) 0) (countOf s (row .kind)) (faultless s row .0 e .within), limit-low (row .kind))

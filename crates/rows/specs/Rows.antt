@@ -1,5 +1,6 @@
--- The length pass and the rows pass: refusals 1 to 4 of document 01.
+-- The length pass and the rows pass: refusals 1 to 4 of document 01, 18 and 19 of document 02.
 use Prim.Native.Nat.{ℕ, zero, suc, _+_, _*_, _%_}
+use mathlib.Core.Path.{_≡_}
 use mathlib.Core.Bool.{Bool, false, cond, not, _&&_, _||_}
 use mathlib.Core.List.{List, [], _∷_}
 use lib.Dec.{eqb, leb, ltb}
@@ -12,7 +13,7 @@ use Rattle.table.specs.Format.{rowBytes, moduleKind, typeKind, fieldKind, proce
 use Rattle.table.specs.Rows.{rowCount, rowAt}
 use Rattle.table.specs.Verdicts.{passOver, andThen}
 use Rattle.table.specs.Flags.{isTrusted, isGuarded, isParameter}
-use Rattle.table.specs.Refusals.{badLength, badPlace, overLimit, badByte}
+use Rattle.table.specs.Refusals.{badLength, badPlace, overLimit, dirtyByte, wrongValue, wrongGuard}
 use Rattle.rows.specs.declared.Above.{Above}
 
 -- 1: no bytes, a length that is not a multiple of 16, or more than 2,048 rows
@@ -163,7 +164,7 @@ lateParameter s row = eqb (row .kind) localKind && isParameter row && s .other
 abbrev pub badOp : Row → Bool
 badOp row = eqb (row .kind) instructionKind && eqb (row .a) opOp && leb pastOps (row .b)
 
--- 4: a value not allowed: A past its values, C over 1, a parameter after another local, Op over 3
+-- 18: a value not allowed: A past its values, C over 1, a parameter after another local, Op over 3
 unfoldable pub badValue : Above → Row → Bool
 badValue s row =
     (usesA row && leb (useOf (row .kind) .values) (row .a))
@@ -171,7 +172,7 @@ badValue s row =
     || lateParameter s row
     || badOp row
 
--- 4: a guard misplaced: only number fields of trusted modules may be guarded
+-- 19: a guard misplaced: only number fields of trusted modules may be guarded
 unfoldable pub badGuard : Above → Row → Bool
 badGuard s row = eqb (row .kind) fieldKind && isGuarded row && not (eqb (row .a) numberSort && s .trusted)
 
@@ -180,14 +181,22 @@ unfoldable pub rowFault : Above → Row → ℕ
 rowFault s row =
     cond (misplaced s row) badPlace
     (cond (tooMany s row) overLimit
-    (cond (unusedByte row) badByte
-    (cond (badValue s row) badByte
-    (cond (badGuard s row) badByte 0))))
+    (cond (unusedByte row) dirtyByte
+    (cond (badValue s row) wrongValue
+    (cond (badGuard s row) wrongGuard 0))))
+
+-- a row without fault: none of the five tests holds
+pub record Faultless (s : Above) (row : Row) : Type 0 where
+  pub placed : misplaced s row ≡ false
+  pub within : tooMany s row ≡ false
+  pub clean : unusedByte row ≡ false
+  pub allowed : badValue s row ≡ false
+  pub guarded : badGuard s row ≡ false
 
 unfoldable pub faultAt : List ℕ → ℕ → ℕ
 faultAt t i = rowFault (aboveAt t i) (rowAt t i)
 
--- the rows pass: 2, 3 or 4 at the lowest faulty row
+-- the rows pass: 2, 3, 4, 18 or 19 at the lowest faulty row
 unfoldable pub rowsOf : List ℕ → Verdict
 rowsOf t = passOver (faultAt t) (rowCount t)
 

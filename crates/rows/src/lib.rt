@@ -1,4 +1,4 @@
-// The length pass and the rows pass: refusals 1 to 4.
+// The length pass and the rows pass: refusals 1 to 4, 18 and 19.
 ghost use mathlib.Core.Path.{_≡_};
 ghost use mathlib.Core.Bool.{_&&_};
 ghost use lib.Dec.{leb};
@@ -148,7 +148,7 @@ impl Above {
         LIMITS[kind as usize] <= self.count_of(kind)
     }
 
-    // 4: a parameter after another local.
+    // 18: a parameter after another local.
     fn late_parameter(self, row: Row) -> bool
         ensures { λ r. ⌜ r ≡ lateParameter self row ⌝ }
     {
@@ -160,7 +160,7 @@ impl Above {
         false
     }
 
-    // 4: a value not allowed.
+    // 18: a value not allowed.
     fn bad_value(self, row: Row) -> bool
         ensures { λ r. ⌜ r ≡ badValue self row ⌝ }
     {
@@ -176,7 +176,7 @@ impl Above {
         bad_op(row)
     }
 
-    // 4: a guard on anything but a number field of a trusted module.
+    // 19: a guard on anything but a number field of a trusted module.
     fn bad_guard(self, row: Row) -> bool
         ensures { λ r. ⌜ r ≡ badGuard self row ⌝ }
     {
@@ -202,13 +202,13 @@ impl Above {
             return refusals::OVER_LIMIT;
         }
         if unused_byte(row) {
-            return refusals::BAD_BYTE;
+            return refusals::DIRTY_BYTE;
         }
         if self.bad_value(row) {
-            return refusals::BAD_BYTE;
+            return refusals::WRONG_VALUE;
         }
         if self.bad_guard(row) {
-            return refusals::BAD_BYTE;
+            return refusals::WRONG_GUARD;
         }
         0
     }
@@ -321,7 +321,7 @@ fn unused_byte(row: Row) -> bool
     is_dirty(uses_d(row), row.d)
 }
 
-// 4: A past its values.
+// 18: A past its values.
 fn bad_a(row: Row) -> bool
     ensures { λ r. ⌜ r ≡ (usesA row && leb (useOf (row .kind) .values) (row .a)) ⌝ }
 {
@@ -332,7 +332,7 @@ fn bad_a(row: Row) -> bool
     values <= row.a
 }
 
-// 4: a mark in C that is neither 0 nor 1.
+// 18: a mark in C that is neither 0 nor 1.
 fn bad_c(row: Row) -> bool
     ensures { λ r. ⌜ r ≡ badC row ⌝ }
 {
@@ -342,7 +342,7 @@ fn bad_c(row: Row) -> bool
     false
 }
 
-// 4: an Op over 3.
+// 18: an Op over 3.
 fn bad_op(row: Row) -> bool
     ensures { λ r. ⌜ r ≡ badOp row ⌝ }
 {

@@ -8,7 +8,7 @@ use native.Mathlib.Omega.{arith}
 use borrow.Author.Tests.{ltb-false, leb-false, eqb-true, eqb-false, not-false}
 use lib.Dec.{eqb, ltb}
 use lib.ListN.{length}
-use Rattle.laws.proofs.First.{all-fine}
+use Rattle.laws.proofs.First.{all-fine, unfaulted}
 use Rattle.table.specs.declared.Row.{Row}
 use Rattle.table.specs.declared.Verdict.{Verdict}
 use Rattle.table.specs.declared.Verdict.the-variants.{Accepted, Refused}
@@ -18,7 +18,7 @@ use Rattle.table.specs.Rows.{rowCount, rowAt, kindAt, isKind}
 use Rattle.table.specs.Verdicts.{passOver}
 use Rattle.table.proofs.Laws.{kind-outside}
 use Rattle.declarations.specs.Program.{procedureIn, parameterKinds, resultKinds}
-use Rattle.declarations.proofs.Passes.{refused-accepted, unfaulted}
+use Rattle.declarations.proofs.Passes.{refused-accepted}
 use Rattle.acceptance.specs.Judged.{Bytes}
 use Rattle.acceptance.proofs.Instructions.{constant-low}
 use Rattle.semantics.specs.Calls.{callRow, argumentRow, maxListBytes, maxBudget, arguments, badKind, unusedByte, argumentFirst, allNumbers, noSuchProcedure, notNumbers, wrongCount, badBudget, badCall, listFault, listOf, call, callsFrom, callsOf}

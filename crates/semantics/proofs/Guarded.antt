@@ -18,9 +18,9 @@ use Rattle.table.specs.Rows.{rowCount, rowAt, kindAt, isKind}
 use Rattle.table.specs.Index.{indexedRows, typeAt, runEnd}
 use Rattle.table.proofs.Laws.{run-next, run-within, kind-outside}
 use Rattle.declarations.specs.Program.{number, rowKind, fieldKinds}
-use Rattle.declarations.proofs.Passes.{unfaulted}
 use Rattle.rows.specs.declared.Above.{Above}
-use Rattle.rows.specs.Rows.{faultAt, rowFault, misplaced, tooMany, unusedByte, badValue, badGuard, usesA, usesB, usesC, usesD, usedWith, uses, dirty, aboveAt}
+use Rattle.rows.proofs.Faults.{faultless}
+use Rattle.rows.specs.Rows.{faultAt, rowFault, unusedByte, badGuard, usesA, usesB, usesC, usesD, usedWith, uses, dirty, aboveAt}
 use Rattle.judging.specs.Judging.{AcceptedTable}
 use Rattle.acceptance.proofs.Stretches.{kind-at}
 use Rattle.semantics.specs.Machine.{Cell, Entry, Frame}
@@ -48,13 +48,11 @@ type-zero row u e =
     eqb-true (row .b) 0 (not-not (eqb (row .b) 0) z)
 
 guard-kind : (s : Above) (row : Row) → rowFault s row ≡ 0 → row .kind ≡ 3 → row .c ≡ 1 → rowKind row ≡ number
-unfolding rowFault rowKind
+unfolding rowKind
 guard-kind s row e k c =
-    let x = unfaulted (tooMany s row) 2 _ (unfaulted (misplaced s row) 1 _ e .1) .1 in
-    let y = unfaulted (unusedByte row) 3 _ x in
-    let z = unfaulted (badGuard s row) 3 _ (unfaulted (badValue s row) 3 _ (y .1) .1) .0 in
-    let a = guard-sort s row k c z in
-    omega (arith, a, type-zero row (no-type row k a) (y .0))
+    let f = faultless s row .0 e in
+    let a = guard-sort s row k c (f .guarded) in
+    omega (arith, a, type-zero row (no-type row k a) (f .clean))
 
 -- rows of one kind are before the run's end
 run-far : (t : List ℕ) (n k i j : ℕ) → i + j < n → ((m : ℕ) → m ≤ j → isKind t k (i + m) ≡ true) → i + j < runEnd t n k i

@@ -22,8 +22,8 @@ use Rattle.table.specs.Procedures.{procedureRow}
 use Rattle.table.proofs.Laws.{row-outside}
 use Rattle.declarations.specs.Program.{typeIn, procedureIn, fieldRow}
 use Rattle.declarations.proofs.Laws.{nth-below, procedure-there}
-use Rattle.declarations.proofs.Passes.{unfaulted}
-use Rattle.rows.specs.Rows.{faultAt, rowFault, misplaced, mayFollow, aboveAt}
+use Rattle.rows.proofs.Faults.{faultless}
+use Rattle.rows.specs.Rows.{faultAt, misplaced, mayFollow, aboveAt}
 use Rattle.leaks.specs.Leaks.{inTrusted}
 use Rattle.judging.specs.Judging.{judgeOf, AcceptedTable}
 use Rattle.judging.proofs.Accepts.{accepting}
@@ -130,8 +130,8 @@ module _ (t : List ℕ) (a : AcceptedTable t) where
 
   -- Modules. The first row is one
   first-module : 0 < rowCount t → isKind t moduleKind 0 ≡ true
-  unfolding isKind kindAt faultAt rowFault misplaced aboveAt
-  first-module h = eq-eqb (rowAt t 0 .kind) 1 (first-kind (rowAt t 0 .kind) (not-not _ (unfaulted (misplaced (aboveAt t 0) (rowAt t 0)) 1 _ (fine 0 h) .0)))
+  unfolding isKind kindAt faultAt misplaced aboveAt
+  first-module h = eq-eqb (rowAt t 0 .kind) 1 (first-kind (rowAt t 0 .kind) (not-not _ (faultless (aboveAt t 0) (rowAt t 0) .0 (fine 0 h) .placed)))
 
   -- so there is one above every other row, and the nearest is the one that is counted
   Above-is : ℕ → Type 0

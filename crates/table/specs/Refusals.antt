@@ -1,19 +1,26 @@
--- The refusals of document 01 by name.
+-- The refusals of documents 01 and 02 by name, pass by pass in the order of the passes, and in each pass in the order in which a row earns them.
 use Prim.Native.Nat.{ℕ}
+use mathlib.Core.List.{List, [], _∷_}
 
 -- length
 abbrev pub badLength : ℕ
 badLength = 1
 
--- rows: a kind unknown or not allowed there; a limit passed; a byte
+-- rows: a kind unknown or not allowed there; a limit passed; an unused byte that is not zero; a value not allowed; a guard misplaced
 abbrev pub badPlace : ℕ
 badPlace = 2
 
 abbrev pub overLimit : ℕ
 overLimit = 3
 
-abbrev pub badByte : ℕ
-badByte = 4
+abbrev pub dirtyByte : ℕ
+dirtyByte = 4
+
+abbrev pub wrongValue : ℕ
+wrongValue = 18
+
+abbrev pub wrongGuard : ℕ
+wrongGuard = 19
 
 -- names: a procedure without instructions, or with another last one than Ret and Branch; what is named does not exist
 abbrev pub openEnd : ℕ
@@ -58,3 +65,22 @@ badCall = 16
 
 abbrev pub smallBuffer : ℕ
 smallBuffer = 17
+
+-- the refusals of each pass over the table
+abbrev pub lengthRefusals : List ℕ
+lengthRefusals = badLength ∷ []
+
+abbrev pub rowRefusals : List ℕ
+rowRefusals = badPlace ∷ overLimit ∷ dirtyByte ∷ wrongValue ∷ wrongGuard ∷ []
+
+abbrev pub nameRefusals : List ℕ
+nameRefusals = openEnd ∷ notDeclared ∷ []
+
+abbrev pub operandRefusals : List ℕ
+operandRefusals = wrongOperand ∷ tooManyOperands ∷ operandsLeft ∷ foreignName ∷ []
+
+abbrev pub localRefusals : List ℕ
+localRefusals = emptyLocal ∷ lostRecord ∷ []
+
+abbrev pub leakRefusals : List ℕ
+leakRefusals = markGiven ∷ markReturned ∷ []

@@ -1,14 +1,18 @@
-// The refusals of document 01 by name. specs/Refusals.antt has the same names for the rules.
+// The refusals of documents 01 and 02 by name, pass by pass. specs/Refusals.antt has the same names for the rules.
 
 // Length.
 pub const BAD_LENGTH: u8 = 1;
 
-// Rows: a kind unknown or not allowed there; a limit passed; a byte.
+// Rows: a kind unknown or not allowed there; a limit passed; an unused byte that is not zero; a value not allowed; a guard misplaced.
 pub const BAD_PLACE: u8 = 2;
 
 pub const OVER_LIMIT: u8 = 3;
 
-pub const BAD_BYTE: u8 = 4;
+pub const DIRTY_BYTE: u8 = 4;
+
+pub const WRONG_VALUE: u8 = 18;
+
+pub const WRONG_GUARD: u8 = 19;
 
 // Names: a procedure without instructions, or with another last one than Ret and Branch; what is named does not exist.
 pub const OPEN_END: u8 = 5;

@@ -10,8 +10,9 @@ use super::view_faults::{self, Family, FAMILIES};
 use super::wild::{self, Flavour};
 use crate::program::Sort;
 use crate::row::{write_rows, Row};
+use crate::TABLE_PASSES;
 
-/// A table meant to be refused with `number`, 1 to 14.
+/// A table meant to be refused with `number`, one of the refusals of tables.
 pub fn table(rng: &mut Rng, number: u32) -> Vec<u8> {
     let mut plan = match number {
         3 if rng.chance(30) => return limits::table(2 * rng.below(7) + 1),
@@ -20,7 +21,12 @@ pub fn table(rng: &mut Rng, number: u32) -> Vec<u8> {
         13 | 14 if rng.chance(55) => tangled(rng, &[Flavour::Leaks, Flavour::Broad]),
         _ => base(rng),
     };
-    if number < 11 || rng.chance(if number < 13 { 45 } else { 75 }) {
+    let enough_as_it_is = match number {
+        11 | 12 => rng.chance(55),
+        13 | 14 => rng.chance(25),
+        _ => false,
+    };
+    if !enough_as_it_is {
         put_in_plan(&mut plan, rng, number);
     }
     let mut rows = plan.rows();
@@ -54,14 +60,15 @@ enum Fault {
 }
 
 impl Fault {
-    /// A fault whose refusal is `lowest` or a higher one.
-    fn new(rng: &mut Rng, lowest: u32) -> Fault {
-        if rng.chance(65) {
-            return Fault::Refusal(rng.within(lowest as usize, 14) as u32);
-        }
+    /// A fault of one of these refusals.
+    fn new(rng: &mut Rng, refusals: &[u32]) -> Fault {
         let families: Vec<Family> =
-            FAMILIES.iter().filter(|(number, _)| *number >= lowest).map(|&(_, family)| family).collect();
-        Fault::Views(rng.pick(&families))
+            FAMILIES.iter().filter(|(number, _)| refusals.contains(number)).map(|&(_, family)| family).collect();
+        if families.is_empty() || rng.chance(65) {
+            Fault::Refusal(rng.pick(refusals))
+        } else {
+            Fault::Views(rng.pick(&families))
+        }
     }
 
     fn put_in_plan(self, plan: &mut Plan, rng: &mut Rng) {
@@ -79,12 +86,25 @@ impl Fault {
     }
 }
 
+/// Of two or three faults the refusals to choose from: those of the rows pass, 18 and 19 beside later ones, or any.
+fn some_refusals(rng: &mut Rng) -> Vec<Vec<u32>> {
+    let order: Vec<u32> = TABLE_PASSES.iter().flat_map(|(_, refusals)| *refusals).copied().collect();
+    let from = |lowest: u32| order.iter().copied().skip_while(|&number| number != lowest).collect::<Vec<u32>>();
+    let mut refusals = match rng.below(8) {
+        0 | 1 => vec![vec![2, 3, 4, 18, 19]; 3],
+        2 | 3 => vec![vec![18, 19], from(5), from(5)],
+        _ => vec![from(rng.pick(&[2, 5, 7, 9, 11])); 3],
+    };
+    refusals.truncate(rng.within(2, 3));
+    refusals
+}
+
 /// A table with two or three faults.
 pub fn table_of_many(rng: &mut Rng) -> Vec<u8> {
     let flavours = [Flavour::Locals, Flavour::Records, Flavour::Leaks];
     let mut plan = if rng.chance(40) { tangled(rng, &flavours) } else { base(rng) };
-    let lowest = rng.pick(&[2, 5, 7, 9, 11]);
-    let faults: Vec<Fault> = (0..rng.within(2, 3)).map(|_| Fault::new(rng, lowest)).collect();
+    let refusals = some_refusals(rng);
+    let faults: Vec<Fault> = refusals.iter().map(|refusals| Fault::new(rng, refusals)).collect();
     for fault in &faults {
         fault.put_in_plan(&mut plan, rng);
     }

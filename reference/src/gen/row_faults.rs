@@ -1,16 +1,17 @@
-//! Faults put into the rows of a table: those of the passes "length", "rows" and "names" (1 to 6).
+//! Faults put into the rows of a table: those of the passes "length", "rows" and "names" (1 to 6, 18, 19).
 
 use super::mutate::put_in;
 use super::plan::{asm::*, field_row, local_row, module_row, proc_row, result_row, type_row};
 use super::rng::Rng;
+use super::value_faults;
 use crate::program::Sort;
-use crate::row::{kind, limit, op, sort, Row};
+use crate::row::{kind, limit, sort, Row};
 
 pub fn put_in_rows(rows: &mut Vec<Row>, rng: &mut Rng, number: u32) {
     match number {
         2 => wrong_kind(rows, rng),
         3 => one_too_many(rows, rng),
-        4 => wrong_value(rows, rng),
+        4 | 18 | 19 => value_faults::put_in_rows(rows, rng, number),
         5 => no_end(rows, rng),
         6 => no_name(rows, rng),
         _ => {}
@@ -18,7 +19,7 @@ pub fn put_in_rows(rows: &mut Vec<Row>, rng: &mut Rng, number: u32) {
 }
 
 /// A row of a random kind among those that the table has, so that seldom kinds come as often as any.
-fn some_row(rows: &[Row], rng: &mut Rng) -> usize {
+pub fn some_row(rows: &[Row], rng: &mut Rng) -> usize {
     let kinds: Vec<u8> =
         (kind::MODULE..=kind::INSTRUCTION).filter(|kind| rows.iter().any(|row| row.kind == *kind)).collect();
     if kinds.is_empty() {
@@ -59,7 +60,7 @@ fn wrong_kind(rows: &mut Vec<Row>, rng: &mut Rng) {
             rows.swap(at, other);
         }
         _ => {
-            // A sound row of any kind below a row of any kind.
+            // A row of any kind below a row of any kind, now and then with another fault of the rows pass.
             let sample = [
                 type_row(),
                 field_row(Sort::Number, false),
@@ -67,14 +68,19 @@ fn wrong_kind(rows: &mut Vec<Row>, rng: &mut Rng) {
                 result_row(Sort::Number),
                 pop().row(),
             ];
-            rows.insert(some_row(rows, rng) + 1, rng.pick(&sample));
+            let mut row = rng.pick(&sample);
+            if rng.chance(30) {
+                value_faults::spoil(&mut row, rng);
+            }
+            rows.insert(some_row(rows, rng) + 1, row);
         }
     }
 }
 
 // 3
 
-/// Puts rows of one kind in until there is one more than allowed.
+/// Puts rows of one kind in until there is one more than allowed. That one now and then has another fault of the rows
+/// pass.
 fn one_too_many(rows: &mut Vec<Row>, rng: &mut Rng) {
     let kinds = [kind::MODULE, kind::FIELD, kind::LOCAL, kind::RESULT, kind::LOCAL, kind::RESULT, kind::TYPE];
     let wanted = rng.pick(&kinds);
@@ -107,78 +113,10 @@ fn one_too_many(rows: &mut Vec<Row>, rng: &mut Rng) {
     };
     let missing = (most + 1).saturating_sub(have);
     rows.splice(at..at, std::iter::repeat_n(row, missing));
-}
-
-// 4
-
-fn wrong_value(rows: &mut [Row], rng: &mut Rng) {
-    if rng.chance(40) && special_wrong_value(rows, rng) {
-        return;
+    // The last type put in is not the last of the table.
+    if missing > 0 && wanted != kind::TYPE && rng.chance(30) {
+        value_faults::spoil(&mut rows[at + missing - 1], rng);
     }
-    let at = some_row(rows, rng);
-    let row = &mut rows[at];
-    match rng.below(6) {
-        0 => {
-            let most = match row.kind {
-                kind::TYPE => 0,
-                kind::LOCAL | kind::RESULT => sort::LAST,
-                kind::INSTRUCTION => op::LAST,
-                _ => 1,
-            };
-            row.a = if rng.chance(50) { most + 1 } else { rng.within(usize::from(most) + 1, 255) as u8 };
-        }
-        1 => row.c = rng.pick(&[1, 2, 3, 256, 257, 1 << 16, 1 << 24, 0x0100_0001]),
-        2 => row.d = row.d.max(1) << (8 * rng.below(8)),
-        3 => row.b = 1 << rng.below(16),
-        _ => {
-            let mut bytes = row.to_bytes();
-            let place = rng.within(1, 15);
-            bytes[place] = bytes[place].wrapping_add(1 + rng.below(255) as u8);
-            *row = Row::from_bytes(&bytes);
-        }
-    }
-}
-
-/// A misplaced guard, a parameter after another local, a wrong Op or opcode.
-fn special_wrong_value(rows: &mut [Row], rng: &mut Rng) -> bool {
-    let which = rng.below(6);
-    if which == 5 {
-        return guard_of_a_guest(rows, rng);
-    }
-    let fits = |row: &&mut Row| match which {
-        0 => row.kind == kind::FIELD && row.c == 0,
-        1 => row.kind == kind::FIELD && row.a == 1,
-        2 => row.kind == kind::LOCAL && row.c == 0,
-        3 => row.kind == kind::INSTRUCTION && row.a == op::OP,
-        _ => row.kind == kind::INSTRUCTION,
-    };
-    let mut found: Vec<&mut Row> = rows.iter_mut().filter(fits).collect();
-    if found.is_empty() {
-        return false;
-    }
-    let at = rng.below(found.len());
-    match which {
-        0..=2 => found[at].c = 1,
-        3 => found[at].b = rng.pick(&[4, 5, 256, 65_535]),
-        _ => found[at].a = rng.pick(&[op::LAST + 1, op::LAST + 2, op::LAST + 3, 255]),
-    }
-    true
-}
-
-fn guard_of_a_guest(rows: &mut [Row], rng: &mut Rng) -> bool {
-    let mut guest = false;
-    let mut found = Vec::new();
-    for (at, row) in rows.iter().enumerate() {
-        match row.kind {
-            kind::MODULE => guest = row.a == 0,
-            kind::FIELD if guest && row.a == 0 => found.push(at),
-            _ => {}
-        }
-    }
-    if !found.is_empty() {
-        rows[rng.pick(&found)].c = 1;
-    }
-    !found.is_empty()
 }
 
 // 5

@@ -9,8 +9,25 @@ use crate::row::{kind, write_rows, Row};
 /// Every so many tables one of the tables at the limits.
 const LIMIT_EVERY: u64 = 25;
 
-/// Refusals that mutations seldom bring are aimed at more often.
-const TARGETS: [u32; 24] = [1, 2, 3, 4, 4, 5, 6, 6, 7, 7, 8, 8, 9, 10, 10, 11, 11, 12, 12, 13, 13, 13, 14, 14];
+/// Refusals with their weights: those that mutations seldom bring are aimed at more often.
+const TARGETS: [(usize, u32); 16] = [
+    (1, 1),
+    (1, 2),
+    (1, 3),
+    (3, 4),
+    (3, 18),
+    (2, 19),
+    (1, 5),
+    (2, 6),
+    (2, 7),
+    (3, 8),
+    (1, 9),
+    (3, 10),
+    (3, 11),
+    (3, 12),
+    (4, 13),
+    (3, 14),
+];
 
 pub fn table(seed: u64, number: u64) -> Vec<u8> {
     if number % LIMIT_EVERY == LIMIT_EVERY - 1 {
@@ -19,16 +36,16 @@ pub fn table(seed: u64, number: u64) -> Vec<u8> {
     let mut rng = Rng::stream(seed, 1, number);
     match rng.below(100) {
         0..=16 => accepted(&mut rng),
-        17..=33 => mutated(&mut rng),
-        34..=82 => {
-            let number = rng.pick(&TARGETS);
+        17..=31 => mutated(&mut rng),
+        32..=81 => {
+            let number = rng.weighted(&TARGETS).expect("there are weights");
             faults::table(&mut rng, number)
         }
-        83..=91 => {
+        82..=90 => {
             let (_, family) = rng.pick(&view_faults::FAMILIES);
             faults::table_with_views(&mut rng, family)
         }
-        92..=97 => faults::table_of_many(&mut rng),
+        91..=97 => faults::table_of_many(&mut rng),
         _ => noise(&mut rng),
     }
 }

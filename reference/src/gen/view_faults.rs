@@ -1,15 +1,18 @@
-//! Faults with read-only references, put into a plan (7, 10, 13, 14) or into the rows of a table (4, 6).
+//! Faults with read-only references, put into a plan (7, 10, 13, 14) or into the rows of a table (4, 6, 18).
 
 use super::plan::{asm::*, Code, Plan, ProcPlan, TypePlan};
 use super::plan_faults::some_proc;
 use super::rng::Rng;
+use super::value_faults::too_large;
 use crate::program::Sort;
 use crate::row::{kind, limit, op, sort, Row};
 
 #[derive(Clone, Copy, Debug, PartialEq, Eq)]
 pub enum Family {
-    /// An opcode or sort that is too large, or an unused byte of Freeze or of sort 4 that is not 0.
-    Value,
+    /// An unused byte of Freeze or of sort 4 that is not 0.
+    Dirty,
+    /// An opcode or sort that is too large.
+    TooLarge,
     /// Sort 5 with a type that is not there.
     NoType,
     /// WriteRef through a read-only reference.
@@ -31,8 +34,9 @@ pub enum Family {
 }
 
 /// Each family with the refusal that it is made to get.
-pub const FAMILIES: [(u32, Family); 10] = [
-    (4, Family::Value),
+pub const FAMILIES: [(u32, Family); 11] = [
+    (4, Family::Dirty),
+    (18, Family::TooLarge),
     (6, Family::NoType),
     (7, Family::Write),
     (7, Family::StandIn),
@@ -46,7 +50,7 @@ pub const FAMILIES: [(u32, Family); 10] = [
 
 pub fn put_in_plan(plan: &mut Plan, rng: &mut Rng, family: Family) {
     match family {
-        Family::Value | Family::NoType => {}
+        Family::Dirty | Family::TooLarge | Family::NoType => {}
         Family::Write => put_in_some(plan, rng, write_through),
         Family::StandIn => stand_in(plan, rng),
         Family::Unfit => put_in_some(plan, rng, unfit_freeze),
@@ -60,7 +64,8 @@ pub fn put_in_plan(plan: &mut Plan, rng: &mut Rng, family: Family) {
 
 pub fn put_in_rows(rows: &mut [Row], rng: &mut Rng, family: Family) {
     match family {
-        Family::Value => wrong_value(rows, rng),
+        Family::Dirty => dirty(rows, rng),
+        Family::TooLarge => sort_or_opcode_too_large(rows, rng),
         Family::NoType => no_type(rows, rng),
         _ => {}
     }
@@ -81,33 +86,30 @@ fn has_sort(row: &Row) -> bool {
     matches!(row.kind, kind::LOCAL | kind::RESULT)
 }
 
-fn wrong_value(rows: &mut [Row], rng: &mut Rng) {
-    let (rest, what) = (rng.pick(&[0, 0, 1, 7, 256]), rng.below(4));
-    if what < 2 {
+fn dirty(rows: &mut [Row], rng: &mut Rng) {
+    if rng.chance(50) {
         let Some(row) = some_row(rows, rng, |row| row.kind == kind::INSTRUCTION) else { return };
         *row = freeze().row();
-        match rng.below(6) {
-            0 => row.b = rest.max(1),
+        match rng.below(3) {
+            0 => row.b = rng.pick(&[1, 1, 7, 256]),
             1 => row.d = 1 << rng.below(64),
-            2 => row.c = 1 << rng.below(32),
-            _ => {
-                row.a = one_past(rng, op::LAST);
-                (row.b, row.d) = (rest, rest.into());
-            }
+            _ => row.c = 1 << rng.below(32),
         }
     } else {
         let Some(row) = some_row(rows, rng, has_sort) else { return };
-        (row.a, row.b) = if what == 2 { (one_past(rng, sort::LAST), rest) } else { (sort::NUMBER_VIEW, rest.max(1)) };
+        (row.a, row.b) = (sort::NUMBER_VIEW, rng.pick(&[1, 1, 7, 256]));
     }
 }
 
-/// Most often the next value after the last allowed one.
-fn one_past(rng: &mut Rng, last: u8) -> u8 {
-    let next = last + 1;
-    if rng.chance(60) {
-        next
-    } else {
-        rng.within(next.into(), 255) as u8
+/// B, and D of an instruction, count as used and may hold anything.
+fn sort_or_opcode_too_large(rows: &mut [Row], rng: &mut Rng) {
+    let instruction = rng.chance(50);
+    let fits = |row: &Row| if instruction { row.kind == kind::INSTRUCTION } else { has_sort(row) };
+    let Some(row) = some_row(rows, rng, fits) else { return };
+    row.a = too_large(rng, row.kind);
+    row.b = rng.pick(&[0, 0, 1, 7, 256]);
+    if instruction {
+        row.d = row.b.into();
     }
 }
 
