@@ -24,7 +24,7 @@ use Rattle.table.specs.Rows.{rowAt, rowCount, isKind}
 use Rattle.table.specs.Verdicts.{andThen}
 use Rattle.table.specs.Index.{noProcedure, indexOf, indexedRows, procedureAt}
 use Rattle.table.proofs.Laws.{procedure-within}
-use Rattle.declarations.specs.Program.{isParameter, codeOf, codeVerdict, overProcedures, codePass, procedureIn, targetBelow, jumpsTo, localCount}
+use Rattle.declarations.specs.Program.{number, recordOf, numberRef, recordRef, numberRead, recordRead, referenceTo, frozen, isParameter, codeOf, codeVerdict, overProcedures, codePass, procedureIn, targetBelow, jumpsTo, localCount}
 use Rattle.declarations.specs.Limits.{overLimits, limited}
 
 module _ (t : List ℕ) (i : ℕ) (r : Row) (e : r ≡ rowAt t i) where
@@ -35,6 +35,19 @@ module _ (t : List ℕ) (i : ℕ) (r : Row) (e : r ≡ rowAt t i) where
   pub parameter-no : (r .c ≡ 1 → ⊥) → not (isParameter t i) ≡ true
   unfolding isParameter
   parameter-no h = ap not (ne-eqb (rowAt t i .c) 1 (λ q. h (ap (λ (r : Row). r .c) e ∙ q)))
+
+-- Kinds: a reference to a number or record is of sort 2 or 3, the read-only one to the same of sort 4 or 5.
+pub reference-number : referenceTo number ≡ numberRef
+reference-number = refl
+
+pub reference-record : (y : ℕ) → referenceTo (recordOf y) ≡ recordRef y
+reference-record y = omega arith
+
+pub frozen-number : frozen numberRef ≡ numberRead
+frozen-number = refl
+
+pub frozen-record : (y : ℕ) → frozen (recordRef y) ≡ recordRead y
+frozen-record y = omega arith
 
 -- the procedures of an index
 abbrev pub proceduresOf : Index → List ProcedureEntry

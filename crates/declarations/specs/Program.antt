@@ -14,7 +14,7 @@ use Rattle.table.specs.declared.Verdict.the-variants.{Accepted, Refused}
 use Rattle.table.specs.declared.index.Index.{Index}
 use Rattle.table.specs.declared.index.TypeEntry.{TypeEntry}
 use Rattle.table.specs.declared.index.ProcedureEntry.{ProcedureEntry}
-use Rattle.table.specs.Format.{numberSort, recordSort, numberReference, recordReference, opBranch, opBranchCond, maxLocals, maxInstructions}
+use Rattle.table.specs.Format.{numberSort, recordSort, numberReference, recordReference, numberReader, recordReader, opBranch, opBranchCond, maxLocals, maxInstructions}
 use Rattle.table.specs.Flags
 use Rattle.table.specs.Rows.{rowAt, rowCount}
 use Rattle.table.specs.Verdicts.{andThen}
@@ -47,10 +47,10 @@ frozen k = k + 2
 
 -- a read-only reference to a number, and to a record of type y
 abbrev pub numberRead : ℕ
-numberRead = frozen numberRef
+numberRead = kindOf numberReader 0
 
 abbrev pub recordRead : ℕ → ℕ
-recordRead y = frozen (recordRef y)
+recordRead y = kindOf recordReader y
 
 -- whether a kind is a record, a reference, or a reference that can be written through
 

@@ -12,7 +12,7 @@ use Rattle.table.specs.declared.index.Index.{Index}
 use Rattle.table.specs.Format.{instructionKind, opReadRef, opWriteRef, opBorrowFld, opCall, opRet, opFreeze}
 use Rattle.table.specs.Rows.{rowAt, kindAt}
 use Rattle.table.specs.Index.{ownerAt}
-use Rattle.declarations.specs.Program.{number, numberRef, recordOf, recordRef, recordRead, isReference, procedureIn, localKind, localCount}
+use Rattle.declarations.specs.Program.{number, numberRef, recordOf, recordRef, frozen, isReference, procedureIn, localKind, localCount}
 use Rattle.arithmetic.specs.Arithmetic.{pastNumbers}
 use Rattle.semantics.specs.Limits.{budgetSpent, staleReference}
 use Rattle.reach.specs.Reach.{Mem}
@@ -76,7 +76,7 @@ module _ (t : List ℕ) (ix : Index) (row id p i : ℕ) (ops : List Value) (ls :
   unfolding instruction effectAt effects reads
   not-borrowed-record {y} e d =
       not-unfit (ap (λ (l : List Value). effectAt t ix p i l .fit) d ∙ ap (λ (x : Effect). x .fit) (effect-at t ix (procedureIn ix p) i opBorrowFld (recordOf y) e)
-      ∙ rw (ne-eqb (recordOf y) (recordRef (instruction t ix p i .b / 8)) (λ z. omega (arith, z)), ne-eqb (recordOf y) (recordRead (instruction t ix p i .b / 8)) (λ z. omega (arith, z))))
+      ∙ rw (ne-eqb (recordOf y) (recordRef (instruction t ix p i .b / 8)) (λ z. omega (arith, z)), ne-eqb (recordOf y) (frozen (recordRef (instruction t ix p i .b / 8))) (λ z. omega (arith, z))))
 
   -- the operands have other kinds than the judge found: one is read-only to the judge and writable in the frame
   pub not-other-kinds : {o : Outcome} → kindsBefore t ix (procedureIn ix p) i ≢ good (map valueKind ops) → SafeWith o → ⊥
