@@ -30,7 +30,7 @@ use Rattle.acceptance.proofs.Guest.{type-row, type-below, type-kind, fi
 -- A count of rows of kind k, as it is carried from row to row.
 module _ (k : ℕ) (number : Above → ℕ) (carried : (s : Above) (row : Row) → number (belowRow s row) ≡ countBelow k (row .kind) (number s)) (t : List ℕ) where
   -- below row i
-  number-next : (i : ℕ) → number (aboveAt t (i + 1)) ≡ countBelow k (kindAt t i) (number (aboveAt t i))
+  pub number-next : (i : ℕ) → number (aboveAt t (i + 1)) ≡ countBelow k (kindAt t i) (number (aboveAt t i))
   unfolding aboveAt kindAt
   number-next i = rw add-one (carried (aboveAt t i) (rowAt t i))
 

@@ -3,7 +3,7 @@ use Prim.Native.Nat.{ℕ, zero, suc, _+_, _*_, _<_, _≤_}
 use mathlib.Core.Path.{_≡_, refl, sym, ap, _∙_}
 use mathlib.Core.Bool.{Bool, true, false, cond, not, _&&_, _||_, or-true, or-false, Bool·beq, false≢true}
 use mathlib.Core.List.{List, []}
-use mathlib.Core.Logic.{_⊎_, inl, inr}
+use mathlib.Core.Logic.{_↔_, _⊎_, inl, inr}
 use mathlib.Mathlib.Data.Bool.Basic.{and-eq-true-eq-eq-true-and-eq-true as both}
 use native.Mathlib.Decide.{decLt}
 use native.Mathlib.Omega.{arith}
@@ -43,70 +43,77 @@ some-of false false false d (inr (inl e)) = absurd (false≢true e)
 some-of false false false d (inr (inr (inl e))) = absurd (false≢true e)
 some-of false false false d (inr (inr (inr e))) = e
 
--- What stands above a row, as the rules carry it along.
+-- A flag that the rule carries along: a row of kind k that `Sets` it puts it up, one of kind `new` takes it down. It is up where such a row stands above with none of kind `new` between.
+module _ (t : List ℕ) (k new : ℕ) (Sets : Row → Type 0) (flag : ℕ → Bool) (down : flag 0 ≡ true → ⊥)
+    (step : (i : ℕ) → (flag (suc i) ≡ true) ↔ (((kindAt t i ≡ k) × Sets (rowAt t i)) ⊎ ((kindAt t i ≡ new → ⊥) × (flag i ≡ true)))) where
+  abbrev Set-above : ℕ → Type 0
+  Set-above i = (j : ℕ) × RowAbove t i k new j × Sets (rowAt t j)
+
+  shown : (i : ℕ) → flag i ≡ true → Set-above i
+  shown zero e = absurd (down e)
+  shown (suc i) e = go (step i .0 e) (shown i)
+    where
+      go : ((kindAt t i ≡ k) × Sets (rowAt t i)) ⊎ ((kindAt t i ≡ new → ⊥) × (flag i ≡ true)) → (flag i ≡ true → Set-above i) → Set-above (suc i)
+      go (inl (q, s)) rest = (i, record { above = omega arith; kind = q; between-them = λ m lo hi z. omega arith }, s)
+      go (inr (n, e)) rest =
+          let r = rest e in
+          (r .0, record { above = omega (arith, r .1 .above); kind = r .1 .kind; between-them = λ m lo hi z. go-between r m lo hi z (decLt m i) }, r .2)
+        where
+          go-between : (r : Set-above i) (m : ℕ) → r .0 < m → m < suc i → kindAt t m ≡ new → Dec (m < i) → ⊥
+          go-between r m lo hi z (yes l) = r .1 .between-them m lo l z
+          go-between r m lo hi z (no l) = let s : m ≡ i = omega arith in n (rw s at z)
+
+  found : (i : ℕ) → Set-above i → flag i ≡ true
+  found zero (j, a, s) = absurd (omega (arith, a .above))
+  found (suc i) (j, a, s) = step i .1 (go (decLt j i) (λ b. found i (j, b, s)))
+    where
+      go : Dec (j < i) → (RowAbove t i k new j → flag i ≡ true) → ((kindAt t i ≡ k) × Sets (rowAt t i)) ⊎ ((kindAt t i ≡ new → ⊥) × (flag i ≡ true))
+      go (yes l) rest = inr (a .between-them i l (omega arith), rest (record { above = l; kind = a .kind; between-them = λ m lo hi. a .between-them m lo (omega arith) }))
+      go (no l) rest = let q : j ≡ i = omega (arith, a .above) in inl (rw q at (a .kind), rw q at s)
+
+  above-if : (i : ℕ) → (flag i ≡ true) ↔ Set-above i
+  above-if i = (shown i, found i)
+
 module _ (t : List ℕ) where
-  -- one row further down, where the row between is not of kind `new`
-  further : (k new j i : ℕ) → RowAbove t i k new j → (kindAt t i ≡ new → ⊥) → RowAbove t (suc i) k new j
-  further k new j i a n = record { above = omega (arith, a .above); kind = a .kind; between-them = λ m lo hi e. go m lo hi e (decLt m i) }
-    where
-      go : (m : ℕ) → j < m → m < suc i → kindAt t m ≡ new → Dec (m < i) → ⊥
-      go m lo hi e (yes l) = a .between-them m lo l e
-      go m lo hi e (no l) = let s : m ≡ i = omega arith in n (rw s at e)
-
-  -- the row right above
-  right-above : (k new i : ℕ) → kindAt t i ≡ k → RowAbove t (suc i) k new i
-  right-above k new i e = record { above = omega arith; kind = e; between-them = λ m lo hi z. omega arith }
-
-  -- one row up
-  one-up : (k new j i : ℕ) → RowAbove t (suc i) k new j → (j ≡ i) ⊎ (RowAbove t i k new j × (kindAt t i ≡ new → ⊥))
-  one-up k new j i a = go (decLt j i)
-    where
-      go : Dec (j < i) → (j ≡ i) ⊎ (RowAbove t i k new j × (kindAt t i ≡ new → ⊥))
-      go (yes l) = inr (record { above = l; kind = a .kind; between-them = λ m lo hi. a .between-them m lo (omega arith) }, a .between-them i l (omega arith))
-      go (no l) = inl (omega (arith, a .above))
-
   -- trusted: the nearest module above is
-  trusted-shown : (i : ℕ) → aboveAt t i .trusted ≡ true → InTrusted t i
+  trusted-step : (i : ℕ) → (aboveAt t (suc i) .trusted ≡ true) ↔ (((kindAt t i ≡ moduleKind) × (isTrusted (rowAt t i) ≡ true)) ⊎ ((kindAt t i ≡ moduleKind → ⊥) × (aboveAt t i .trusted ≡ true)))
   unfolding aboveAt belowRow kindAt
-  trusted-shown zero e = absurd (false≢true e)
-  trusted-shown (suc i) e = go (eqb (kindAt t i) moduleKind) refl e (trusted-shown i)
+  trusted-step i = (go (eqb (kindAt t i) moduleKind) refl, back)
     where
-      go : (b : Bool) → eqb (kindAt t i) moduleKind ≡ b → cond b (isTrusted (rowAt t i)) (aboveAt t i .trusted) ≡ true → (aboveAt t i .trusted ≡ true → InTrusted t i) → InTrusted t (suc i)
-      go true q e rest = (i, right-above _ _ i (eqb-true _ _ q), e)
-      go false q e rest = let r = rest e in (r .0, further _ _ (r .0) i (r .1) (eqb-false _ _ q), r .2)
+      go : (b : Bool) → eqb (kindAt t i) moduleKind ≡ b → cond b (isTrusted (rowAt t i)) (aboveAt t i .trusted) ≡ true
+          → ((kindAt t i ≡ moduleKind) × (isTrusted (rowAt t i) ≡ true)) ⊎ ((kindAt t i ≡ moduleKind → ⊥) × (aboveAt t i .trusted ≡ true))
+      go true q e = inl (eqb-true _ _ q, e)
+      go false q e = inr (eqb-false _ _ q, e)
 
-  trusted-found : (i : ℕ) → InTrusted t i → aboveAt t i .trusted ≡ true
-  unfolding aboveAt belowRow kindAt
-  trusted-found zero (j, a, e) = absurd (omega (arith, a .above))
-  trusted-found (suc i) (j, a, e) = go (one-up _ _ j i a) (λ b. trusted-found i (j, b, e))
-    where
-      go : (j ≡ i) ⊎ (RowAbove t i moduleKind moduleKind j × (kindAt t i ≡ moduleKind → ⊥)) → (RowAbove t i moduleKind moduleKind j → aboveAt t i .trusted ≡ true)
+      back : ((kindAt t i ≡ moduleKind) × (isTrusted (rowAt t i) ≡ true)) ⊎ ((kindAt t i ≡ moduleKind → ⊥) × (aboveAt t i .trusted ≡ true))
           → cond (eqb (kindAt t i) moduleKind) (isTrusted (rowAt t i)) (aboveAt t i .trusted) ≡ true
-      go (inl s) rest = rw (← s, a .kind) e
-      go (inr (b, n)) rest = rw (ne-eqb _ _ n) (rest b)
+      back (inl (q, e)) = rw q e
+      back (inr (n, e)) = rw (ne-eqb _ _ n) e
+
+  trusted-if : (i : ℕ) → (aboveAt t i .trusted ≡ true) ↔ InTrusted t i
+  unfolding aboveAt
+  trusted-if = above-if t _ _ (λ (row : Row). isTrusted row ≡ true) (λ (i : ℕ). aboveAt t i .trusted) (λ e. false≢true e) trusted-step
 
   -- other: some local above in the procedure is no parameter
-  other-shown : (i : ℕ) → aboveAt t i .other ≡ true → AfterOther t i
+  other-step : (i : ℕ) → (aboveAt t (suc i) .other ≡ true) ↔ (((kindAt t i ≡ localKind) × (isParameter (rowAt t i) ≡ false)) ⊎ ((kindAt t i ≡ procedureKind → ⊥) × (aboveAt t i .other ≡ true)))
   unfolding aboveAt belowRow kindAt
-  other-shown zero e = absurd (false≢true e)
-  other-shown (suc i) e = go (eqb (kindAt t i) procedureKind) refl (eqb (kindAt t i) localKind) refl (isParameter (rowAt t i)) refl e (other-shown i)
+  other-step i = (go (eqb (kindAt t i) procedureKind) refl (eqb (kindAt t i) localKind) refl (isParameter (rowAt t i)) refl, back)
     where
       go : (b : Bool) → eqb (kindAt t i) procedureKind ≡ b → (c : Bool) → eqb (kindAt t i) localKind ≡ c → (d : Bool) → isParameter (rowAt t i) ≡ d → cond b false ((c && not d) || aboveAt t i .other) ≡ true
-          → (aboveAt t i .other ≡ true → AfterOther t i) → AfterOther t (suc i)
-      go true p c q d r e rest = absurd (false≢true e)
-      go false p true q false r e rest = (i, right-above _ _ i (eqb-true _ _ q), r)
-      go false p true q true r e rest = let z = rest e in (z .0, further _ _ (z .0) i (z .1) (eqb-false _ _ p), z .2)
-      go false p false q d r e rest = let z = rest e in (z .0, further _ _ (z .0) i (z .1) (eqb-false _ _ p), z .2)
+          → ((kindAt t i ≡ localKind) × (isParameter (rowAt t i) ≡ false)) ⊎ ((kindAt t i ≡ procedureKind → ⊥) × (aboveAt t i .other ≡ true))
+      go true p c q d r e = absurd (false≢true e)
+      go false p true q false r e = inl (eqb-true _ _ q, r)
+      go false p true q true r e = inr (eqb-false _ _ p, e)
+      go false p false q d r e = inr (eqb-false _ _ p, e)
 
-  other-found : (i : ℕ) → AfterOther t i → aboveAt t i .other ≡ true
-  unfolding aboveAt belowRow kindAt
-  other-found zero (j, a, e) = absurd (omega (arith, a .above))
-  other-found (suc i) (j, a, e) = go (one-up _ _ j i a) (λ b. other-found i (j, b, e))
-    where
-      go : (j ≡ i) ⊎ (RowAbove t i localKind procedureKind j × (kindAt t i ≡ procedureKind → ⊥)) → (RowAbove t i localKind procedureKind j → aboveAt t i .other ≡ true)
+      back : ((kindAt t i ≡ localKind) × (isParameter (rowAt t i) ≡ false)) ⊎ ((kindAt t i ≡ procedureKind → ⊥) × (aboveAt t i .other ≡ true))
           → cond (eqb (kindAt t i) procedureKind) false ((eqb (kindAt t i) localKind && not (isParameter (rowAt t i))) || aboveAt t i .other) ≡ true
-      go (inl s) rest = rw (← s, a .kind, e)
-      go (inr (b, n)) rest = rw (ne-eqb _ _ n, rest b) (or-true (eqb (kindAt t i) localKind && not (isParameter (rowAt t i))))
+      back (inl (q, e)) = rw (q, e)
+      back (inr (n, e)) = rw (ne-eqb _ _ n, e) (or-true (eqb (kindAt t i) localKind && not (isParameter (rowAt t i))))
+
+  other-if : (i : ℕ) → (aboveAt t i .other ≡ true) ↔ AfterOther t i
+  unfolding aboveAt
+  other-if = above-if t _ _ (λ (row : Row). isParameter row ≡ false) (λ (i : ℕ). aboveAt t i .other) (λ e. false≢true e) other-step
 
 -- Which parts of a row are used, and how large A may be: what is said by kind and A is what the table of uses says, of each kind and of what is none.
 
@@ -308,7 +315,7 @@ module _ (t : List ℕ) (i : ℕ) (inside : i < rowCount t) where
       go (inr (inl e)) = let h = both (usedC (here .kind)) _ .0 e in wrong-c (one-of-two fieldKind localKind (here .kind) (h .0)) (ltb-true _ _ (h .1))
       go (inr (inr (inl e))) =
           let h = both (eqb (here .kind) localKind && isParameter here) (state .other) .0 e in let g = both (eqb (here .kind) localKind) (isParameter here) .0 (h .0) in
-          late (eqb-true _ _ (g .0)) (g .1) (other-shown t i (h .1))
+          late (eqb-true _ _ (g .0)) (g .1) (other-if t i .0 (h .1))
       go (inr (inr (inr e))) =
           let h = both (eqb (here .kind) instructionKind && eqb (here .a) opOp) (leb pastOps (here .b)) .0 e in let g = both (eqb (here .kind) instructionKind) (eqb (here .a) opOp) .0 (h .0) in
           wrong-op (eqb-true _ _ (g .0)) (eqb-true _ _ (g .1)) (leb-true _ _ (h .1))
@@ -322,7 +329,7 @@ module _ (t : List ℕ) (i : ℕ) (inside : i < rowCount t) where
   c-found (inr k) h = some-value (inr (inl (rw (k, lt-ltb _ _ h))))
 
   late-found : here .kind ≡ localKind → isParameter here ≡ true → AfterOther t i → badValue state here ≡ true
-  late-found k p a = some-value (inr (inr (inl (rw (k, p, other-found t i a)))))
+  late-found k p a = some-value (inr (inr (inl (rw (k, p, other-if t i .1 a)))))
 
   op-found : here .kind ≡ instructionKind → here .a ≡ opOp → pastOps ≤ here .b → badValue state here ≡ true
   op-found k o h = some-value (inr (inr (inr (rw (k, o, le-leb _ _ h)))))
@@ -336,7 +343,7 @@ module _ (t : List ℕ) (i : ℕ) (inside : i < rowCount t) where
     where
       go : (a : Bool) → eqb (here .a) numberSort ≡ a → (b : Bool) → state .trusted ≡ b → (a && b) ≡ false → here .kind ≡ fieldKind → isGuarded here ≡ true → RowCause t i wrongGuard
       go false p b q e k g = guarded-record k g (eqb-false _ _ p)
-      go true p false q e k g = guarded-outside k g (λ a. false≢true (sym q ∙ trusted-found t i a))
+      go true p false q e k g = guarded-outside k g (λ a. false≢true (sym q ∙ trusted-if t i .1 a))
       go true p true q e k g = absurd (false≢true (sym e))
 
   record-found : here .kind ≡ fieldKind → isGuarded here ≡ true → (here .a ≡ numberSort → ⊥) → badGuard state here ≡ true
@@ -348,7 +355,7 @@ module _ (t : List ℕ) (i : ℕ) (inside : i < rowCount t) where
   outside-found k g n = rw (k, g) (go (eqb (here .a) numberSort) (state .trusted) refl)
     where
       go : (a b : Bool) → state .trusted ≡ b → not (a && b) ≡ true
-      go true true q = absurd (n (trusted-shown t i q))
+      go true true q = absurd (n (trusted-if t i .0 q))
       go true false q = refl
       go false b q = refl
 

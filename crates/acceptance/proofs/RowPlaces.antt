@@ -19,8 +19,8 @@ use Rattle.table.specs.Rows.{rowAt, kindAt, isKind}
 use Rattle.rows.specs.declared.Above.{Above}
 use Rattle.rows.specs.Rows.{mayFollow, owned, limits, misplaced, tooMany, aboveAt, belowRow, countBelow, countOf}
 use Rattle.rows.proofs.Laws.{agree}
-use Rattle.acceptance.specs.RowRefusals.{follows, kindAbove, Full, modules, types, fields, procedures, locals, results, instructions}
-use Rattle.acceptance.proofs.Counts.{number-count, no-owner}
+use Rattle.acceptance.specs.RowRefusals.{follows, kindAbove, Since, Full, modules, types, fields, procedures, locals, results, instructions}
+use Rattle.acceptance.proofs.Counts.{number-next, number-count, no-owner}
 
 -- what holds of each of the seven kinds, and of what is none
 pub by-kind : (P : ℕ → Type 0) → Below P 8 → ((k : ℕ) → 8 ≤ k → P k) → (k : ℕ) → P k
@@ -80,8 +80,7 @@ module _ (k new : ℕ) (number : Above → ℕ) (carried : (s : Above) (row : Ro
   None j i = (m : ℕ) → j ≤ m → m < i → kindAt t m ≡ new → ⊥
 
   next : (i : ℕ) → number (aboveAt t (i + 1)) ≡ countBelow k (kindAt t i) (number (aboveAt t i))
-  unfolding aboveAt kindAt
-  next i = rw add-one (carried (aboveAt t i) (rowAt t i))
+  next = number-next k number carried t
 
   more : (j i : ℕ) → None j i → (kindAt t i ≡ new → ⊥) → None j (i + 1)
   more j i none n m lo hi e = go (decLt m i)
@@ -127,10 +126,7 @@ module _ (k new : ℕ) (number : Above → ℕ) (carried : (s : Above) (row : Ro
           omega (arith, n, count-no (isKind t k) i p, rest (omega arith))
 
   -- so the number reaches a limit exactly if so many rows stand there since some row
-  abbrev Reached : ℕ → ℕ → Type 0
-  Reached limit i = (j : ℕ) × (j ≤ i) × None j i × (limit + count (isKind t k) j ≤ count (isKind t k) i)
-
-  since : (limit i : ℕ) → (limit ≤ number (aboveAt t i)) ↔ Reached limit i
+  since : (limit i : ℕ) → (limit ≤ number (aboveAt t i)) ↔ Since t i new k limit
   unfolding Counted
   since limit i = (λ h. let c = counted i in (c .0, c .1, c .2, omega (arith, h, c .3)), λ r. omega (arith, r .3, counts-all i (r .0) (r .1) (r .2)))
 
@@ -174,19 +170,19 @@ module _ (t : List ℕ) (i : ℕ) where
   unfolding aboveAt belowRow owned member every
   procedure-count = number-count procedureKind (λ (s : Above). s .procedures) (λ s row. refl) t refl (no-owner procedureKind refl) i
 
-  field-count : (maxFields ≤ state .fields) ↔ ((j : ℕ) × (j ≤ i) × ((m : ℕ) → j ≤ m → m < i → kindAt t m ≡ typeKind → ⊥) × (maxFields + count (isKind t fieldKind) j ≤ count (isKind t fieldKind) i))
+  field-count : (maxFields ≤ state .fields) ↔ Since t i typeKind fieldKind maxFields
   unfolding aboveAt belowRow owned member every
   field-count = since fieldKind typeKind (λ (s : Above). s .fields) (λ s row. refl) t refl (anew-if fieldKind typeKind refl (omega arith)) (λ z. omega arith) maxFields i
 
-  local-count : (maxLocals ≤ state .locals) ↔ ((j : ℕ) × (j ≤ i) × ((m : ℕ) → j ≤ m → m < i → kindAt t m ≡ procedureKind → ⊥) × (maxLocals + count (isKind t localKind) j ≤ count (isKind t localKind) i))
+  local-count : (maxLocals ≤ state .locals) ↔ Since t i procedureKind localKind maxLocals
   unfolding aboveAt belowRow owned member every
   local-count = since localKind procedureKind (λ (s : Above). s .locals) (λ s row. refl) t refl (anew-if localKind procedureKind refl (omega arith)) (λ z. omega arith) maxLocals i
 
-  result-count : (maxResults ≤ state .results) ↔ ((j : ℕ) × (j ≤ i) × ((m : ℕ) → j ≤ m → m < i → kindAt t m ≡ procedureKind → ⊥) × (maxResults + count (isKind t resultKind) j ≤ count (isKind t resultKind) i))
+  result-count : (maxResults ≤ state .results) ↔ Since t i procedureKind resultKind maxResults
   unfolding aboveAt belowRow owned member every
   result-count = since resultKind procedureKind (λ (s : Above). s .results) (λ s row. refl) t refl (anew-if resultKind procedureKind refl (omega arith)) (λ z. omega arith) maxResults i
 
-  instruction-count : (maxInstructions ≤ state .instructions) ↔ ((j : ℕ) × (j ≤ i) × ((m : ℕ) → j ≤ m → m < i → kindAt t m ≡ procedureKind → ⊥) × (maxInstructions + count (isKind t instructionKind) j ≤ count (isKind t instructionKind) i))
+  instruction-count : (maxInstructions ≤ state .instructions) ↔ Since t i procedureKind instructionKind maxInstructions
   unfolding aboveAt belowRow owned member every
   instruction-count = since instructionKind procedureKind (λ (s : Above). s .instructions) (λ s row. refl) t refl (anew-if instructionKind procedureKind refl (omega arith)) (λ z. omega arith) maxInstructions i
 
@@ -194,13 +190,13 @@ module _ (t : List ℕ) (i : ℕ) where
   unfolding follows limits countOf
   full-shown = by-kind (λ (k : ℕ). here .kind ≡ k → follows k (kindAbove t i) ≡ true → leb (getD limits k 0) (countOf state k) ≡ true → Full t i)
       ((λ q f e. absurd (false≢true f))
-      ▸ (λ q f e. modules q (rw q (omega (arith, leb-true maxModules (state .modules) e, module-count))))
-      ▸ (λ q f e. types q (rw q (omega (arith, leb-true maxTypes (state .types) e, type-count))))
-      ▸ (λ q f e. fields q (rw q (field-count .0 (leb-true maxFields (state .fields) e))))
-      ▸ (λ q f e. procedures q (rw q (omega (arith, leb-true maxProcedures (state .procedures) e, procedure-count))))
-      ▸ (λ q f e. locals q (rw q (local-count .0 (leb-true maxLocals (state .locals) e))))
-      ▸ (λ q f e. results q (rw q (result-count .0 (leb-true maxResults (state .results) e))))
-      ▸ (λ q f e. instructions q (rw q (instruction-count .0 (leb-true maxInstructions (state .instructions) e))))
+      ▸ (λ q f e. modules q (omega (arith, leb-true maxModules (state .modules) e, module-count)))
+      ▸ (λ q f e. types q (omega (arith, leb-true maxTypes (state .types) e, type-count)))
+      ▸ (λ q f e. fields q (field-count .0 (leb-true maxFields (state .fields) e)))
+      ▸ (λ q f e. procedures q (omega (arith, leb-true maxProcedures (state .procedures) e, procedure-count)))
+      ▸ (λ q f e. locals q (local-count .0 (leb-true maxLocals (state .locals) e)))
+      ▸ (λ q f e. results q (result-count .0 (leb-true maxResults (state .results) e)))
+      ▸ (λ q f e. instructions q (instruction-count .0 (leb-true maxInstructions (state .instructions) e)))
       ▸ tt)
       (λ k h q f e. absurd (false≢true (sym (no-follower k (kindAbove t i) h) ∙ f)))
 
@@ -210,10 +206,10 @@ module _ (t : List ℕ) (i : ℕ) where
 
   pub count-found : Full t i → tooMany state here ≡ true
   unfolding tooMany limits countOf
-  count-found (modules q h) = let z = rw q at h in rw q (le-leb maxModules (state .modules) (omega (arith, z, module-count)))
-  count-found (types q h) = let z = rw q at h in rw q (le-leb maxTypes (state .types) (omega (arith, z, type-count)))
-  count-found (procedures q h) = let z = rw q at h in rw q (le-leb maxProcedures (state .procedures) (omega (arith, z, procedure-count)))
-  count-found (fields q h) = let z = rw q at h in rw q (le-leb maxFields (state .fields) (field-count .1 z))
-  count-found (locals q h) = let z = rw q at h in rw q (le-leb maxLocals (state .locals) (local-count .1 z))
-  count-found (results q h) = let z = rw q at h in rw q (le-leb maxResults (state .results) (result-count .1 z))
-  count-found (instructions q h) = let z = rw q at h in rw q (le-leb maxInstructions (state .instructions) (instruction-count .1 z))
+  count-found (modules q h) = rw q (le-leb maxModules (state .modules) (omega (arith, h, module-count)))
+  count-found (types q h) = rw q (le-leb maxTypes (state .types) (omega (arith, h, type-count)))
+  count-found (procedures q h) = rw q (le-leb maxProcedures (state .procedures) (omega (arith, h, procedure-count)))
+  count-found (fields q h) = rw q (le-leb maxFields (state .fields) (field-count .1 h))
+  count-found (locals q h) = rw q (le-leb maxLocals (state .locals) (local-count .1 h))
+  count-found (results q h) = rw q (le-leb maxResults (state .results) (result-count .1 h))
+  count-found (instructions q h) = rw q (le-leb maxInstructions (state .instructions) (instruction-count .1 h))

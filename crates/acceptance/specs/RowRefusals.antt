@@ -70,22 +70,22 @@ module _ (t : List ℕ) (i : ℕ) where
   abbrev pub DirtyByte : Type 0
   DirtyByte = (o : ℕ) × (getD (usedBytes (here .kind) (here .a)) o true ≡ false) × (getD t (rowBytes * i + o) 0 ≡ 0 → ⊥)
 
-  -- so many rows of its kind stand above it: in the table, and since the last row of kind `new`
-  abbrev pub InTable : ℕ → Type 0
-  InTable limit = limit ≤ count (isKind t (here .kind)) i
+  -- as many rows of kind k as the limit stand above it: in the table; since the last row of kind `new`
+  abbrev pub InTable : ℕ → ℕ → Type 0
+  InTable k limit = limit ≤ count (isKind t k) i
 
-  abbrev pub Since : ℕ → ℕ → Type 0
-  Since new limit = (j : ℕ) × (j ≤ i) × ((m : ℕ) → j ≤ m → m < i → kindAt t m ≡ new → ⊥) × (limit + count (isKind t (here .kind)) j ≤ count (isKind t (here .kind)) i)
+  abbrev pub Since : ℕ → ℕ → ℕ → Type 0
+  Since new k limit = (j : ℕ) × (j ≤ i) × ((m : ℕ) → j ≤ m → m < i → kindAt t m ≡ new → ⊥) × (limit + count (isKind t k) j ≤ count (isKind t k) i)
 
   -- there are 16 modules, 64 types, 128 procedures in the table above it; 8 fields of its type; 16 locals, 4 results, 256 instructions of its procedure
   pub data Full : Type 0 where
-    modules : here .kind ≡ moduleKind → InTable maxModules → Full
-    types : here .kind ≡ typeKind → InTable maxTypes → Full
-    fields : here .kind ≡ fieldKind → Since typeKind maxFields → Full
-    procedures : here .kind ≡ procedureKind → InTable maxProcedures → Full
-    locals : here .kind ≡ localKind → Since procedureKind maxLocals → Full
-    results : here .kind ≡ resultKind → Since procedureKind maxResults → Full
-    instructions : here .kind ≡ instructionKind → Since procedureKind maxInstructions → Full
+    modules : here .kind ≡ moduleKind → InTable moduleKind maxModules → Full
+    types : here .kind ≡ typeKind → InTable typeKind maxTypes → Full
+    fields : here .kind ≡ fieldKind → Since typeKind fieldKind maxFields → Full
+    procedures : here .kind ≡ procedureKind → InTable procedureKind maxProcedures → Full
+    locals : here .kind ≡ localKind → Since procedureKind localKind maxLocals → Full
+    results : here .kind ≡ resultKind → Since procedureKind resultKind maxResults → Full
+    instructions : here .kind ≡ instructionKind → Since procedureKind instructionKind maxInstructions → Full
 
   -- row j above it is of kind k, and no row between them is of kind `new`
   pub record RowAbove (k new j : ℕ) : Type 0 where

@@ -1,13 +1,12 @@
 -- Numbers 18 and 19 alter no verdict but for these two numbers: a table is accepted exactly if it was, and refused at the row at which it was.
 use Prim.Native.Nat.{ℕ, zero, suc, _+_}
 use mathlib.Core.Path.{_≡_, refl, sym, ap, ap₂, _∙_}
-use mathlib.Core.Bool.{Bool, true, false, cond, _||_, false≢true}
+use mathlib.Core.Bool.{Bool, true, false, cond, _||_}
 use mathlib.Core.List.{List, [], _∷_}
 use mathlib.Core.Logic.{_↔_}
 use native.Mathlib.Omega.{arith}
 use Rattle.laws.specs.First.{firstFault, unless}
 use Rattle.laws.specs.Lists.{member}
-use Rattle.laws.proofs.First.{unfaulted}
 use Rattle.laws.proofs.Lists.{disjoint, not-in}
 use Rattle.table.specs.declared.Row.{Row}
 use Rattle.table.specs.declared.Verdict.{Verdict}
@@ -17,6 +16,7 @@ use Rattle.table.specs.Verdicts.{andThen}
 use Rattle.table.specs.Refusals.{wrongValue, wrongGuard, lengthRefusals}
 use Rattle.rows.specs.declared.Above.{Above}
 use Rattle.rows.specs.Rows.{lengthOf, rowsOf, misplaced, tooMany, unusedByte, badValue, badGuard, rowFault, faultAt, aboveAt, Faultless}
+use Rattle.rows.proofs.Faults.{faultless}
 use Rattle.declarations.proofs.Passes.{refused-accepted}
 use Rattle.names.specs.Names.{namesOf}
 use Rattle.operands.specs.Operands.{operandsOf}
@@ -26,28 +26,21 @@ use Rattle.judging.specs.Judging.{judgeOf, inOrder, passes}
 use Rattle.judging.specs.Before.{rowFaultBefore, rowsBefore, judgeBefore, oldNumber, inOldNumbers}
 use Rattle.judging.proofs.Numbers.{length-number, laterRefusals, after-rows}
 
--- A row: without fault in the old numbers exactly if none of the five tests holds, as in the new ones (`rows/proofs/Faults: faultless`).
-either-fails : (a b : Bool) → (a || b) ≡ false → (a ≡ false) × (b ≡ false)
-either-fails true b e = absurd (false≢true (sym e))
-either-fails false b e = (refl, e)
+-- a fault stays one, and no fault none
+old-fault : (k : ℕ) → (m : ℕ) × (oldNumber (suc k) ≡ suc m)
+unfolding oldNumber
+old-fault k = go (member (suc k) (wrongValue ∷ wrongGuard ∷ []))
+  where
+    go : (b : Bool) → (m : ℕ) × (cond b 4 (suc k) ≡ suc m)
+    go true = (3, refl)
+    go false = (k, refl)
 
+old-none : (k : ℕ) → oldNumber k ≡ 0 → k ≡ 0
+old-none zero e = refl
+old-none (suc k) e = let f = old-fault k in absurd (omega (arith, e, f .1))
+
+-- A row.
 module _ (s : Above) (row : Row) where
-  pub faultless-before : (rowFaultBefore s row ≡ 0) ↔ Faultless s row
-  unfolding rowFaultBefore
-  faultless-before = (to, from)
-    where
-      to : rowFaultBefore s row ≡ 0 → Faultless s row
-      to e =
-          let a = unfaulted (misplaced s row) _ _ e in
-          let b = unfaulted (tooMany s row) _ _ (a .1) in
-          let c = unfaulted (unusedByte row || badValue s row || badGuard s row) _ _ (b .1) in
-          let d = either-fails (unusedByte row || badValue s row) (badGuard s row) (c .0) in
-          let f = either-fails (unusedByte row) (badValue s row) (d .0) in
-          record { placed = a .0; within = b .0; clean = f .0; allowed = f .1; guarded = d .1 }
-
-      from : Faultless s row → rowFaultBefore s row ≡ 0
-      from f = rw (f .placed, f .within, f .clean, f .allowed, f .guarded)
-
   -- its old number is its new one with 18 and 19 read as 4
   pub fault-before : rowFaultBefore s row ≡ oldNumber (rowFault s row)
   unfolding rowFaultBefore rowFault oldNumber member
@@ -61,20 +54,12 @@ module _ (s : Above) (row : Row) where
       go false false false false true = refl
       go false false false false false = refl
 
--- a fault stays one
-old-fault : (k : ℕ) → oldNumber (suc k) ≡ 0 → ⊥
-unfolding oldNumber
-old-fault k = go (member (suc k) (wrongValue ∷ wrongGuard ∷ []))
-  where
-    go : (b : Bool) → cond b 4 (suc k) ≡ 0 → ⊥
-    go true e = omega arith
-    go false e = omega arith
+  -- so it is without fault in the old numbers exactly if none of the five tests holds, as in the new ones
+  pub faultless-before : (rowFaultBefore s row ≡ 0) ↔ Faultless s row
+  unfolding oldNumber member
+  faultless-before = (λ e. faultless s row .0 (old-none _ (sym fault-before ∙ e)), λ f. fault-before ∙ ap oldNumber (faultless s row .1 f))
 
-told : (m : ℕ) (v rest : Verdict) → (m ≡ 0 → ⊥) → unless m v rest ≡ v
-told zero v rest n = absurd (n refl)
-told (suc m) v rest n = refl
-
--- so does the first faulty row
+-- The first faulty row stays so.
 firsts : (f g : ℕ → ℕ) → ((i : ℕ) → f i ≡ oldNumber (g i)) → (i left : ℕ) → firstFault Accepted Refused f i left ≡ inOldNumbers (firstFault Accepted Refused g i left)
 unfolding firstFault oldNumber member
 firsts f g same i zero = refl
@@ -83,7 +68,7 @@ firsts f g same i (suc left) = go (g i) refl (firsts f g same (i + 1) left)
     go : (k : ℕ) → g i ≡ k → firstFault Accepted Refused f (i + 1) left ≡ inOldNumbers (firstFault Accepted Refused g (i + 1) left)
         → unless (f i) (Refused (f i) i) (firstFault Accepted Refused f (i + 1) left) ≡ inOldNumbers (unless (g i) (Refused (g i) i) (firstFault Accepted Refused g (i + 1) left))
     go zero e ih = rw (same i, e) ih
-    go (suc k) e ih = told (f i) _ _ (λ z. old-fault k (sym (same i ∙ ap oldNumber e) ∙ z)) ∙ rw (same i, e)
+    go (suc k) e ih = let z : f i ≡ suc (old-fault k .0) = same i ∙ ap oldNumber e ∙ old-fault k .1 in rw (z, e) (ap (λ (m : ℕ). Refused m i) (sym (old-fault k .1)))
 
 pub rows-before : (t : List ℕ) → rowsBefore t ≡ inOldNumbers (rowsOf t)
 unfolding rowsBefore rowsOf faultAt
