@@ -26,6 +26,19 @@ use Rattle.judging.specs.Judging.{judgeOf, inOrder, passes}
 use Rattle.judging.specs.Before.{rowFaultBefore, rowsBefore, judgeBefore, oldNumber, inOldNumbers}
 use Rattle.judging.proofs.Numbers.{length-number, laterRefusals, after-rows}
 
+-- A row's old number is its new one with 18 and 19 read as 4.
+pub fault-before : (s : Above) (row : Row) → rowFaultBefore s row ≡ oldNumber (rowFault s row)
+unfolding rowFaultBefore rowFault oldNumber member
+fault-before s row = go (misplaced s row) (tooMany s row) (unusedByte row) (badValue s row) (badGuard s row)
+  where
+    go : (a b c d e : Bool) → cond a 2 (cond b 3 (cond (c || d || e) 4 0)) ≡ oldNumber (cond a 2 (cond b 3 (cond c 4 (cond d 18 (cond e 19 0)))))
+    go true b c d e = refl
+    go false true c d e = refl
+    go false false true d e = refl
+    go false false false true e = refl
+    go false false false false true = refl
+    go false false false false false = refl
+
 -- a fault stays one, and no fault none
 old-fault : (k : ℕ) → (m : ℕ) × (oldNumber (suc k) ≡ suc m)
 unfolding oldNumber
@@ -39,25 +52,10 @@ old-none : (k : ℕ) → oldNumber k ≡ 0 → k ≡ 0
 old-none zero e = refl
 old-none (suc k) e = let f = old-fault k in absurd (omega (arith, e, f .1))
 
--- A row.
-module _ (s : Above) (row : Row) where
-  -- its old number is its new one with 18 and 19 read as 4
-  pub fault-before : rowFaultBefore s row ≡ oldNumber (rowFault s row)
-  unfolding rowFaultBefore rowFault oldNumber member
-  fault-before = go (misplaced s row) (tooMany s row) (unusedByte row) (badValue s row) (badGuard s row)
-    where
-      go : (a b c d e : Bool) → cond a 2 (cond b 3 (cond (c || d || e) 4 0)) ≡ oldNumber (cond a 2 (cond b 3 (cond c 4 (cond d 18 (cond e 19 0)))))
-      go true b c d e = refl
-      go false true c d e = refl
-      go false false true d e = refl
-      go false false false true e = refl
-      go false false false false true = refl
-      go false false false false false = refl
-
-  -- so it is without fault in the old numbers exactly if none of the five tests holds, as in the new ones
-  pub faultless-before : (rowFaultBefore s row ≡ 0) ↔ Faultless s row
-  unfolding oldNumber member
-  faultless-before = (λ e. faultless s row .0 (old-none _ (sym fault-before ∙ e)), λ f. fault-before ∙ ap oldNumber (faultless s row .1 f))
+-- so a row is without fault in the old numbers exactly if none of the five tests holds, as in the new ones
+pub faultless-before : (s : Above) (row : Row) → (rowFaultBefore s row ≡ 0) ↔ Faultless s row
+unfolding oldNumber member
+faultless-before s row = (λ e. faultless s row .0 (old-none _ (sym (fault-before s row) ∙ e)), λ f. fault-before s row ∙ ap oldNumber (faultless s row .1 f))
 
 -- The first faulty row stays so.
 firsts : (f g : ℕ → ℕ) → ((i : ℕ) → f i ≡ oldNumber (g i)) → (i left : ℕ) → firstFault Accepted Refused f i left ≡ inOldNumbers (firstFault Accepted Refused g i left)
