@@ -60,10 +60,11 @@ static void expect_run(const char *what, size_t n, size_t k, size_t text_len, un
     failures += !ok;
 }
 
-/* Credits published under an address by the credit module's procedure 0: twice, the second time the key is taken. */
+/* Credits published under addresses by the credit module's procedure 0: twice under one, the second time the key is taken; then under two. */
 static void run_credits(void)
 {
     static const char both[] = "call 0 done\ncall 1 stop 33 row 8\nstore 0 7 500\n";
+    static const char rising[] = "call 0 done\ncall 1 done\nstore 0 9 500\nstore 0 10 500\n";
     static const char spent[] = "call 0 stop 31 row 9\ncall 1 done\nstore 0 7 500\n";
     size_t n = load("examples/credit.bin");
     size_t k = load_into(list, sizeof list, "examples/credit-calls.bin");
@@ -74,6 +75,10 @@ static void run_credits(void)
     expect_run("list less one byte", n, k - 1, YITHREL_MIN_TEXT, 15, 0, "");
     expect_run("no argument", n, 16, YITHREL_MIN_TEXT, 16, 0, "");
     expect_run("table less one byte", n - 1, k, YITHREL_MIN_TEXT, 1, 0, "");
+    list[1 * 16 + 8] = 10;
+    list[3 * 16 + 8] = 9;
+    expect_run("address 10, then 9", n, k, YITHREL_MIN_TEXT, 0, sizeof rising - 1, rising);
+    list[1 * 16 + 8] = list[3 * 16 + 8] = 7;
     list[4] = 4;
     expect_run("budget 4 in the first call", n, k, YITHREL_MIN_TEXT, 0, sizeof spent - 1, spent);
     list[4] = 0;

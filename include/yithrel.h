@@ -67,11 +67,15 @@ uint64_t yithrel_judge(const uint8_t *table, size_t table_len);
  *   17  the buffer is shorter than YITHREL_MIN_TEXT (row 0)
  *
  * The list is rows of 16 bytes: kind 1 is a call (B the procedure, C the budget of instructions), kind 2 an argument (D) of the call above. The store
- * starts empty and lasts over the list. The text has a line for each call, then one for each entry of the store, the newest first:
+ * starts empty and lasts over the list. The text has a line for each call, then one for each entry of the store, rising by type and
+ * then by address, both as numbers:
  *
  *   call I done RESULT ..       call I ended, with its results
  *   call I stop N row R         call I stopped at the instruction in row R; the store is that of its beginning
  *   store TYPE ADDRESS FIELD .. a nested record stands as (TYPE FIELD ..)
+ *
+ * I counts from 0. Words stand one space apart, each line ends with a newline (byte 10), and no null byte follows. A record without fields stands as
+ * (TYPE).
  *
  *   31 budget spent              34 no such key                  37 a 129th live record
  *   32 sum or difference         35 reference to what is gone    38 a 65th store entry

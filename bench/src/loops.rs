@@ -1,5 +1,5 @@
 //! Tables and lists for the speed of running: loops that go on until the budget is spent, and lists of short calls, each alone and
-//! in settings that should not matter to them.
+//! in settings that should not matter to them; a full store that is printed.
 
 use reference::gen::plan::{argument_row, asm::*, call_row, Code, Plan, ProcPlan};
 use reference::program::Sort;
@@ -26,9 +26,15 @@ pub enum Work {
     Changes,
     /// Short calls of the list that change records and stop, so that what they changed is put back.
     Undone,
+    /// Prints a full store whose keys were published rising.
+    Rising,
+    /// The same with keys falling.
+    Falling,
+    /// The same with keys in no order.
+    Mixed,
 }
 
-pub const WORKS: [Work; 8] = [
+pub const WORKS: [Work; 11] = [
     Work::Arithmetic,
     Work::Field,
     Work::Store,
@@ -37,6 +43,9 @@ pub const WORKS: [Work; 8] = [
     Work::Stops,
     Work::Changes,
     Work::Undone,
+    Work::Rising,
+    Work::Falling,
+    Work::Mixed,
 ];
 
 impl Work {
@@ -50,12 +59,25 @@ impl Work {
             Work::Stops => "stopped calls (a call)",
             Work::Changes => "changing calls (a call)",
             Work::Undone => "undone calls (a call)",
+            Work::Rising => "rising keys (a line)",
+            Work::Falling => "falling keys (a line)",
+            Work::Mixed => "mixed keys (a line)",
         }
     }
 
     /// Whether the list's calls are short, so that they and not their instructions are counted.
     fn is_short(self) -> bool {
         matches!(self, Work::Ends | Work::Stops | Work::Changes | Work::Undone)
+    }
+
+    /// For each of the keys of a full store that the work prints, as number of 64, when it is published; none if it prints none.
+    fn keys(self) -> Option<fn(usize) -> usize> {
+        match self {
+            Work::Rising => Some(|turn| turn),
+            Work::Falling => Some(|turn| limit::ENTRIES - 1 - turn),
+            Work::Mixed => Some(|turn| turn * 29 % limit::ENTRIES),
+            _ => None,
+        }
     }
 
     /// Records and entries that the work has at most at a time, beyond those that it finds.
@@ -98,7 +120,7 @@ pub struct Course {
     pub table: Vec<u8>,
     pub short: Vec<u8>,
     pub long: Vec<u8>,
-    /// Instructions, or calls where they are short, of the work that only the long list does.
+    /// Instructions, calls where they are short, or lines of the store, of the work that only the long list does.
     pub more: u64,
 }
 
@@ -106,8 +128,12 @@ pub struct Course {
 /// many are not disturbed by what else the machine does.
 const BUDGETS: (u32, u32) = (1_000, 17_000);
 
-/// The work in the setting; none for short calls on deep frames, as calls of the list start without a frame.
+/// The work in the setting; none for short calls on deep frames, as calls of the list start without a frame, and none for printing
+/// where the work is not alone.
 pub fn course(work: Work, setting: Setting) -> Option<Course> {
+    if let Some(keys) = work.keys() {
+        return (setting == Setting::Alone).then(|| printing(keys));
+    }
     if work.is_short() && setting == Setting::DeepFrames {
         return None;
     }
@@ -145,6 +171,27 @@ pub fn course(work: Work, setting: Setting) -> Option<Course> {
         (list(1, small), list(1, large), u64::from(large - small))
     };
     Some(Course { table: plan.bytes(), short, long, more })
+}
+
+/// A call that publishes the keys in these turns, sixteen of each of four types; in the short list it stops at last, so that there is
+/// nothing to print.
+fn printing(key: fn(usize) -> usize) -> Course {
+    let mut plan = Plan::default();
+    let module = add_module(&mut plan);
+    let types: Vec<u16> = (0..4).map(|_| plan.add_type(module, &[(N, false)])).collect();
+    let mut code = Vec::new();
+    for turns in [0..limit::ENTRIES / 2, limit::ENTRIES / 2..limit::ENTRIES] {
+        let publish = |turn: usize| {
+            let of = types[key(turn) / 16];
+            [load(500), pack(of), load(key(turn) as u64 % 16), move_to(of)]
+        };
+        let half = turns.flat_map(publish).chain([ret()]).collect();
+        code.push(call(plan.add_proc(ProcPlan { module, code: half, ..ProcPlan::default() })));
+    }
+    code.extend([mv(0), load(1), arith(SUB), pop(), ret()]);
+    let all = plan.add_proc(ProcPlan { module, public: true, params: vec![N], code, ..ProcPlan::default() });
+    let list = |last: u64| write_rows(&[call_row(all, limit::BUDGET), argument_row(last)]);
+    Course { table: plan.bytes(), short: list(0), long: list(1), more: limit::ENTRIES as u64 }
 }
 
 fn add_module(plan: &mut Plan) -> usize {
@@ -189,6 +236,7 @@ fn add_work(plan: &mut Plan, work: Work) -> u16 {
         }
         Work::Changes => vec![load(5), pack(of), unpack(of), pop(), ret()],
         Work::Undone => vec![load(5), pack(of), unpack(of), load(6), arith(SUB), pop(), ret()],
+        Work::Rising | Work::Falling | Work::Mixed => unreachable!("what prints has a course of its own"),
     };
     plan.add_proc(ProcPlan { module, public: true, others, results, code, ..ProcPlan::default() })
 }

@@ -67,7 +67,7 @@ impl Tally {
 
 /// For each call of a text its stop, or 0 if it was done.
 pub fn ends(text: &[u8]) -> Vec<u32> {
-    reference::split_text(text).0.into_iter().map(stop_of).collect()
+    text.split(|&byte| byte == b'\n').filter(|line| line.starts_with(b"call ")).map(stop_of).collect()
 }
 
 /// The stop of a call's line, or 0.
@@ -197,7 +197,7 @@ impl Best {
     }
 }
 
-/// Prints nanoseconds for one instruction or call of each course's work on the proved and on the plain machine. What both lists
+/// Prints nanoseconds for one instruction, call or line of each course's work on the proved and on the plain machine. What both lists
 /// do, judging too, is taken off.
 pub fn speed() {
     let mut text = vec![0; limit::TEXT_BYTES];

@@ -2,6 +2,7 @@
 
 pub mod body;
 pub mod faults;
+pub mod keys;
 pub mod kit;
 pub mod limits;
 pub mod mutate;

@@ -1,4 +1,4 @@
-//! The judge of bytecode tables and the stack machine of documents 01 and 02 (papers 1 and 2), a second time: to
+//! The judge of bytecode tables and the stack machine of documents 01 and 02 (papers 1 to 3), a second time: to
 //! compare the other implementation with; and a generator of inputs for both.
 
 pub mod gen;
@@ -6,6 +6,7 @@ pub mod list;
 pub mod machine;
 mod names;
 mod operands;
+pub mod orders;
 pub mod program;
 pub mod row;
 mod shape;
@@ -13,10 +14,9 @@ pub mod text;
 pub mod walks;
 
 pub use list::check_list;
-pub use text::split_text;
 
 use list::ListCall;
-use machine::Machine;
+use machine::{Entry, Machine};
 use program::Program;
 use std::collections::BTreeMap;
 
@@ -75,6 +75,11 @@ pub fn type_check(table: &[u8]) -> Result<Program, Refusal> {
 
 /// Runs a call list over a table, for a text buffer of `text_len` bytes: the text, or the refusal.
 pub fn run(table: &[u8], list: &[u8], text_len: usize) -> Result<Vec<u8>, Refusal> {
+    run_with_store(table, list, text_len).map(|(text, _)| text)
+}
+
+/// The same, with the store's entries after the last call.
+pub fn run_with_store(table: &[u8], list: &[u8], text_len: usize) -> Result<(Vec<u8>, Vec<Entry>), Refusal> {
     let program = admit(table)?;
     let calls = check_list(&program, list)?;
     if text_len < row::limit::TEXT_BYTES {
@@ -83,7 +88,7 @@ pub fn run(table: &[u8], list: &[u8], text_len: usize) -> Result<Vec<u8>, Refusa
     Ok(run_calls(&program, &calls))
 }
 
-fn run_calls(program: &Program, calls: &[ListCall]) -> Vec<u8> {
+fn run_calls(program: &Program, calls: &[ListCall]) -> (Vec<u8>, Vec<Entry>) {
     let mut machine = Machine::new(program);
     let mut text = Vec::new();
     for (number, call) in calls.iter().enumerate() {
@@ -91,5 +96,5 @@ fn run_calls(program: &Program, calls: &[ListCall]) -> Vec<u8> {
         text::write_call(&mut text, number, &outcome);
     }
     text::write_store(&mut text, &machine);
-    text
+    (text, machine.store().to_vec())
 }

@@ -1,6 +1,7 @@
 //! The program `reference`: see README.md for its commands.
 
 use reference::gen::{runs, tables};
+use reference::orders::StoreCounts;
 use reference::program::Program;
 use reference::row::{kind, op, read_rows};
 use reference::{refusal_lines, Refusal, RUN_PASSES, TABLE_PASSES};
@@ -113,7 +114,8 @@ fn made_runs(seed: u64, count: u64, dir: &str) -> Result<(), String> {
     write(dir, "stdout", &expected)
 }
 
-/// How often each verdict comes among made tables, and each refusal and call's end among made runs.
+/// How often each verdict comes among made tables, and each refusal and call's end among made runs; and what stores
+/// these leave.
 fn histogram(seed: u64, count: u64) -> Result<(), String> {
     print(format!("{count} tables\n{}{count} runs\n{}", table_lines(seed, count), run_lines(seed, count)).as_bytes())
 }
@@ -146,14 +148,16 @@ fn shows(program: &Program) -> bool {
 fn run_lines(seed: u64, count: u64) -> String {
     let mut refusals: BTreeMap<u32, u64> = BTreeMap::new();
     let mut calls: BTreeMap<Option<u32>, u64> = BTreeMap::new();
+    let mut stores = StoreCounts::default();
     let mut through = 0;
     for number in 0..count {
         let case = runs::case(seed, number);
-        match reference::run(&case.table, &case.list, case.text_len) {
-            Ok(text) => {
+        match reference::run_with_store(&case.table, &case.list, case.text_len) {
+            Ok((text, store)) => {
                 through += 1;
-                let (lines, _) = reference::split_text(&text);
-                lines.into_iter().for_each(|line| *calls.entry(stop_of(line)).or_default() += 1);
+                let lines = text.split(|&byte| byte == b'\n').filter(|line| line.starts_with(b"call "));
+                lines.for_each(|line| *calls.entry(stop_of(line)).or_default() += 1);
+                stores.add(&store);
             }
             Err((number, _)) => *refusals.entry(number).or_default() += 1,
         }
@@ -165,6 +169,7 @@ fn run_lines(seed: u64, count: u64) -> String {
         let what = stop.map_or("done".to_string(), |number| format!("stopped {number}"));
         lines.push_str(&format!("  calls {what}: {times}\n"));
     }
+    lines.push_str(&stores.lines());
     lines
 }
 

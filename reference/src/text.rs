@@ -1,4 +1,4 @@
-//! The text of a run.
+//! The text of a run, fixed to the byte.
 
 use crate::machine::{Entry, Machine, Outcome};
 use crate::program::Program;
@@ -20,10 +20,10 @@ pub fn write_call(text: &mut Vec<u8>, number: usize, outcome: &Outcome) {
     text.push(b'\n');
 }
 
-/// Writes one `store` line per entry, the newest first.
+/// Writes one `store` line per entry. The lines rise by type, then by address, both as numbers.
 pub fn write_store(text: &mut Vec<u8>, machine: &Machine) {
     let mut entries: Vec<&Entry> = machine.store().iter().collect();
-    entries.sort_by_key(|entry| std::cmp::Reverse(entry.made));
+    entries.sort_unstable_by_key(|entry| (entry.of, entry.address));
     for entry in entries {
         put(text, format_args!("store {} {}", entry.of, entry.address));
         write_fields(text, machine, machine.entry_fields(entry));
@@ -47,13 +47,4 @@ fn write_fields(text: &mut Vec<u8>, machine: &Machine, (of, fields): (u8, &[u64]
 
 fn put(text: &mut Vec<u8>, words: std::fmt::Arguments) {
     text.write_fmt(words).expect("writing to memory does not fail");
-}
-
-/// A text as its call lines in their order and its store lines sorted by their bytes. Two texts say the same if
-/// these are equal: the order of store lines is free.
-pub fn split_text(text: &[u8]) -> (Vec<&[u8]>, Vec<&[u8]>) {
-    let lines = text.split_inclusive(|&byte| byte == b'\n');
-    let (mut store, calls): (Vec<&[u8]>, Vec<&[u8]>) = lines.partition(|line| line.starts_with(b"store "));
-    store.sort_unstable();
-    (calls, store)
 }

@@ -1,16 +1,18 @@
 //! What holds of all made inputs.
 
-use reference::gen::plan::Plan;
+use reference::gen::keys::{self, Depot};
+use reference::gen::plan::{argument_row, call_row, Plan};
 use reference::gen::rng::Rng;
 use reference::gen::value_faults::{self, CAUSES};
 use reference::gen::view_faults::{add_pair, Family, FAMILIES};
 use reference::gen::{faults, limits, runs, structured, tables, wild};
-use reference::machine::{Access, Machine, Outcome, Reference, Value, Watch};
+use reference::machine::{Access, Entry, Machine, Outcome, Reference, Value, Watch};
+use reference::orders::{StoreCounts, OTHER_ORDERS};
 use reference::program::{Instr, Procedure, Program, Sort};
 use reference::row::{write_rows, Row};
 use reference::walks::{joint, places};
 use reference::TABLE_PASSES;
-use std::collections::BTreeMap;
+use std::collections::{BTreeMap, BTreeSet};
 
 #[test]
 fn judging_is_deterministic() {
@@ -272,11 +274,96 @@ fn texts_fit_their_buffer_and_are_deterministic() {
         assert_eq!(answer, reference::run(&case.table, &case.list, case.text_len));
         if let Ok(text) = answer {
             assert!(text.len() <= 65_536);
-            let (calls, store) = reference::split_text(&text);
-            assert_eq!(calls.concat().len() + store.concat().len(), text.len());
-            assert!(store.windows(2).all(|pair| pair[0] != pair[1]));
         }
     }
+}
+
+/// The keys of the store lines, which stand below the lines of calls.
+fn store_keys(text: &[u8]) -> Vec<(u64, u64)> {
+    let text = std::str::from_utf8(text).expect("plain text");
+    assert!(text.is_empty() || text.ends_with('\n'));
+    let below = text.lines().skip_while(|line| line.starts_with("call "));
+    below.map(|line| key_of(line).unwrap_or_else(|| panic!("no store line: {line}"))).collect()
+}
+
+fn key_of(line: &str) -> Option<(u64, u64)> {
+    let mut words = line.strip_prefix("store ")?.split(' ');
+    Some((words.next()?.parse().ok()?, words.next()?.parse().ok()?))
+}
+
+/// Strictly, so no key stands twice.
+#[test]
+fn store_lines_rise_by_type_then_address() {
+    let mut lines = 0;
+    for number in 0..3_000 {
+        let case = runs::case(26, number);
+        let Ok((text, store)) = reference::run_with_store(&case.table, &case.list, case.text_len) else { continue };
+        let keys = store_keys(&text);
+        assert!(keys.is_sorted_by(|one, next| one < next), "case {number}: {keys:?}");
+        assert_eq!(keys.len(), store.len());
+        assert!(store.iter().all(|entry| keys.contains(&(entry.of.into(), entry.address))));
+        lines += keys.len();
+    }
+    assert!(lines > 10_000, "{lines} store lines");
+}
+
+#[test]
+fn made_runs_tell_orders_apart() {
+    let mut counts = StoreCounts::default();
+    let mut full_of_types = 0;
+    for number in 0..2_500 {
+        let case = runs::case(27, number);
+        if let Ok((_, store)) = reference::run_with_store(&case.table, &case.list, case.text_len) {
+            counts.add(&store);
+            full_of_types += u64::from(store.len() == 64 && types_of(&store) >= 2);
+        }
+    }
+    let [none, one, two, more] = counts.by_lines;
+    assert!(none >= 300 && one >= 200 && two >= 200, "{counts:?}");
+    assert!(more >= 400 && counts.several_types * 3 >= more * 2, "{counts:?}");
+    assert!(counts.mixed * 3 >= more * 2 && counts.mixed_types * 5 >= more * 3, "{counts:?}");
+    assert!(full_of_types >= 30 && counts.full >= full_of_types, "{full_of_types} full ones of several types");
+    for ((order, _), count) in OTHER_ORDERS.iter().zip(counts.otherwise) {
+        assert!(count >= 80, "{order}: {counts:?}");
+    }
+}
+
+fn types_of(store: &[Entry]) -> usize {
+    store.iter().map(|entry| entry.of).collect::<BTreeSet<u8>>().len()
+}
+
+/// The calls with ample budgets.
+fn run_depot(depot: &Depot) -> (String, Vec<Entry>) {
+    let mut list = Vec::new();
+    for (procedure, arguments) in &depot.calls {
+        list.push(call_row(*procedure, 65_535));
+        list.extend(arguments.iter().map(|&number| argument_row(number)));
+    }
+    let answer = reference::run_with_store(&depot.plan.bytes(), &write_rows(&list), 65_536);
+    let (text, store) = answer.expect("not refused");
+    (String::from_utf8(text).expect("plain text"), store)
+}
+
+#[test]
+fn stores_are_filled_spread_and_emptied() {
+    let (mut spread, mut modules, mut nested, mut undone) = (0, 0, 0, 0);
+    for item in 0..200 {
+        let depot = keys::spread(&mut Rng::stream(28, 0, item));
+        let (text, store) = run_depot(&depot);
+        spread += usize::from(store.len() >= 3 && types_of(&store) >= 2);
+        let homes: BTreeSet<usize> = store.iter().map(|entry| depot.plan.types[usize::from(entry.of)].module).collect();
+        modules += usize::from(homes.len() >= 2);
+        nested += usize::from(text.contains('('));
+        undone += usize::from(text.contains(" stop 32 "));
+        let (text, store) = run_depot(&keys::full(&mut Rng::stream(29, 0, item)));
+        assert!(store.len() == 64 && types_of(&store) >= 2, "item {item}: {} entries", store.len());
+        assert!(text.contains(" stop 38 "), "item {item}");
+        let (text, store) = run_depot(&keys::emptied(&mut Rng::stream(30, 0, item)));
+        assert!(store.len() <= 1, "item {item}: {} entries", store.len());
+        assert!(text.lines().count() >= 3, "item {item}");
+    }
+    assert!(spread >= 150, "{spread} stores of several types");
+    assert!(modules >= 100 && nested >= 80 && undone >= 100, "{modules} {nested} {undone}");
 }
 
 /// Whether the budget that `needed` tells is the least one that ends the call the same way.
@@ -319,13 +406,19 @@ fn each_refusal_and_stop_comes_often() {
 }
 
 #[test]
-fn each_refusal_comes_among_runs() {
+fn each_refusal_and_stop_comes_among_runs() {
     let mut refusals = BTreeMap::new();
+    let mut texts = String::new();
     for number in 0..8_000 {
         let case = runs::case(1, number);
-        if let Err((number, _)) = reference::run(&case.table, &case.list, case.text_len) {
-            *refusals.entry(number).or_insert(0) += 1;
+        match reference::run(&case.table, &case.list, case.text_len) {
+            Ok(text) => texts.push_str(std::str::from_utf8(&text).expect("plain text")),
+            Err((number, _)) => *refusals.entry(number).or_insert(0) += 1,
         }
+    }
+    for stop in 31..=38 {
+        let times = texts.matches(&format!(" stop {stop} row ")).count();
+        assert!(times >= 100, "{times} times stop {stop}");
     }
     assert!((1..=19).all(|number| refusals.contains_key(&number)), "{refusals:?}");
     assert!((15..=17).all(|number| refusals[&number] >= 200), "{refusals:?}");

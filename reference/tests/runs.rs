@@ -198,16 +198,6 @@ fn nested_records_and_records_without_fields() {
     prints(&table, &calls(&[(0, &[])]), &["call 0 done", "store 0 8", "store 2 9 (0) (1 1 (0) 2)"]);
 }
 
-#[test]
-fn store_lines_in_any_order() {
-    let one = b"call 0 done\nstore 0 7 5\nstore 1 2\n";
-    let other = b"call 0 done\nstore 1 2\nstore 0 7 5\n";
-    let different = b"call 0 done\nstore 1 2\nstore 1 2\nstore 0 7 5\n";
-    assert_eq!(reference::split_text(one), reference::split_text(other));
-    assert_ne!(reference::split_text(one), reference::split_text(different));
-    assert_eq!(reference::split_text(b""), (vec![], vec![]));
-}
-
 // Stops
 
 #[test]

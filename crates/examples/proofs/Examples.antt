@@ -2,14 +2,13 @@
 use mathlib.Core.Path.{_≡_, refl}
 use mathlib.Core.List.{List, _++_, map, map-append}
 use Rattle.judging.specs.Judging.{judgeOf}
-use Rattle.semantics.specs.Machine.{Entry}
 use Rattle.semantics.specs.Run.{runOf}
-use Rattle.examples.specs.Examples.{Example, Answer, judgingRows, judgingValues, judgingWalks, judgingMarks, judgingOverwritten, judgingReadOnly, judgingHanded, runningCalls, runningLimits, examples, line, given, expected, answered, answers}
+use Rattle.examples.specs.Examples.{Example, Answer, judgingRows, judgingValues, judgingWalks, judgingMarks, judgingOverwritten, judgingReadOnly, judgingHanded, runningCalls, runningKeys, runningLimits, examples, line, given, expected, answered, answers}
 use Rattle.examples.proofs.Rules.{rules}
 
 -- what the rules answer to an example; that they answer some examples as stated
 abbrev told : Example → Answer
-told = answered judgeOf (runOf (λ (es : List Entry). es))
+told = answered judgeOf runOf
 
 Hold : List Example → Type 0
 Hold es = map told es ≡ map given es
@@ -46,6 +45,10 @@ calls-hold : Hold runningCalls
 unfolding Hold rules runningCalls line
 calls-hold = refl
 
+keys-hold : Hold runningKeys
+unfolding Hold rules runningKeys line
+keys-hold = refl
+
 limits-hold : Hold runningLimits
 unfolding Hold rules runningLimits line
 limits-hold = refl
@@ -54,9 +57,9 @@ both : (xs ys : List Example) → Hold xs → Hold ys → Hold (xs ++ ys)
 unfolding Hold
 both xs ys hx hy = rw (map-append told xs ys, map-append given xs ys, hx, hy) refl
 
-parts-hold : Hold (judgingRows ++ judgingValues ++ judgingWalks ++ judgingMarks ++ judgingOverwritten ++ judgingReadOnly ++ judgingHanded ++ runningCalls ++ runningLimits)
-parts-hold = both _ _ (both _ _ (both _ _ (both _ _ (both _ _ (both _ _ (both _ _ (both _ _ rows-hold values-hold) walks-hold) marks-hold) overwritten-hold) read-only-hold) handed-hold) calls-hold) limits-hold
+parts-hold : Hold (judgingRows ++ judgingValues ++ judgingWalks ++ judgingMarks ++ judgingOverwritten ++ judgingReadOnly ++ judgingHanded ++ runningCalls ++ runningKeys ++ runningLimits)
+parts-hold = both _ _ (both _ _ (both _ _ (both _ _ (both _ _ (both _ _ (both _ _ (both _ _ (both _ _ rows-hold values-hold) walks-hold) marks-hold) overwritten-hold) read-only-hold) handed-hold) calls-hold) keys-hold) limits-hold
 
-pub all-hold : answers judgeOf (runOf (λ (es : List Entry). es)) ≡ expected
+pub all-hold : answers judgeOf runOf ≡ expected
 unfolding Hold examples answers expected
 all-hold = parts-hold

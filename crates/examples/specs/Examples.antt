@@ -8,7 +8,7 @@ use Rattle.table.specs.declared.Verdict.{Verdict}
 use Rattle.table.specs.declared.Verdict.the-variants.{Accepted, Refused}
 use Rattle.semantics.specs.Ascii.{ascii}
 use Rattle.semantics.specs.Run.{Ran, minText}
-use Rattle.examples.specs.Tables.{row, table, trusted, guest, type, number, guarded, public, private, parameter, local, code, pop, loadConst, mvLoc, cpLoc, stLoc, exists, moveFrom, unpack, borrowFld, readRef, pack, moveTo, callProcedure, ret, branch, branchCond, subtract, call, argument, rowsS, rowsT, rowsRound, with-row, without-row, times, rowsLent, rowsShown, rowsTakesTwo, rowsMarkedOnFallThrough, rowsMarkedOnJump, rowsOverwrittenOnce, rowsOverwrittenTwice, rowsOps, rowsLoop, rowsClosed, rowsWritten, rowsTwo, rowsNested, rowsGuest, callsGuest, rowsRefilled, rowsEmptied, rowsReturned, rowsStale, rowsDeep, rowsMany, rowsFull, result, borrowLoc, writeRef, freeze, rowsLabel, callsLabel, rowsSeen, rowsFrozenStale, rowsTakesOne}
+use Rattle.examples.specs.Tables.{row, table, trusted, guest, type, number, guarded, public, private, parameter, local, code, pop, loadConst, mvLoc, cpLoc, stLoc, exists, moveFrom, unpack, borrowFld, readRef, pack, moveTo, callProcedure, ret, branch, branchCond, subtract, call, argument, rowsS, rowsT, rowsRound, with-row, without-row, times, rowsLent, rowsShown, rowsTakesTwo, rowsMarkedOnFallThrough, rowsMarkedOnJump, rowsOverwrittenOnce, rowsOverwrittenTwice, rowsOps, rowsLoop, rowsClosed, rowsWritten, rowsTwo, rowsKeys, rowsBare, rowsTypes, rowsNested, rowsGuest, callsGuest, rowsRefilled, rowsEmptied, rowsReturned, rowsStale, rowsDeep, rowsMany, rowsFull, result, borrowLoc, writeRef, freeze, rowsLabel, callsLabel, rowsSeen, rowsFrozenStale, rowsTakesOne}
 
 -- an example: the bytes of a table and its verdict; or a table, a call list and the length of a text buffer, with the answer and the text
 pub data Example : Type 0 where
@@ -242,8 +242,8 @@ runningCalls =
     ∷ prints (table rowsWritten)
     (table (call 0 100 ∷ argument 7 ∷ call 1 100 ∷ argument 7 ∷ argument 60 ∷ call 1 100 ∷ argument 7 ∷ argument 200 ∷ call 2 100 ∷ argument 7 ∷ call 2 100 ∷ argument 8 ∷ []))
     (line "call 0 done" ++ line "call 1 done 40" ++ line "call 2 stop 32 row 21" ++ line "call 3 done 60" ++ line "call 4 stop 34 row 27" ++ line "store 0 7 60")
-    -- the second of two credits is written; the newest entry is printed first
-    ∷ prints (table rowsTwo) (table (call 0 100 ∷ [])) (line "call 0 done" ++ line "store 0 8 3" ++ line "store 0 7 1")
+    -- the second of two credits is written
+    ∷ prints (table rowsTwo) (table (call 0 100 ∷ [])) (line "call 0 done" ++ line "store 0 7 1" ++ line "store 0 8 3")
     -- nested records
     ∷ prints (table rowsNested) (table (call 0 100 ∷ argument 7 ∷ [])) (line "call 0 done" ++ line "store 2 7 (1 8 (0 9)) (0 6)")
     -- a guest holds a credit and calls the trusted module; 34: withdrawn twice in one call
@@ -268,6 +268,35 @@ runningCalls =
     ∷ refuses (table rowsS) [] 65535 17 0
     ∷ []
 
+-- the order of the store's lines: by type, then by address, both as numbers
+unfoldable pub runningKeys : List Example
+runningKeys =
+    -- three types of two modules, addresses 0, 9, 10 and 2^64 - 1, published out of order
+    prints (table rowsKeys)
+    (table (call 1 100 ∷ argument 10 ∷ call 0 100 ∷ argument 10 ∷ argument 100 ∷ call 3 100 ∷ argument 0 ∷ call 0 100 ∷ argument 9 ∷ argument 90
+    ∷ call 1 100 ∷ argument 0 ∷ call 0 100 ∷ argument 18446744073709551615 ∷ argument 7 ∷ call 0 100 ∷ argument 0 ∷ argument 1 ∷ []))
+    (line "call 0 done" ++ line "call 1 done" ++ line "call 2 done" ++ line "call 3 done" ++ line "call 4 done" ++ line "call 5 done" ++ line "call 6 done"
+    ++ line "store 0 0 1" ++ line "store 0 9 90" ++ line "store 0 10 100" ++ line "store 0 18446744073709551615 7"
+    ++ line "store 1 0 1 2" ++ line "store 1 10 1 2"
+    ++ line "store 2 0 5")
+    -- one is withdrawn and later published again; a stopped call leaves the lines as they are
+    ∷ prints (table rowsKeys)
+    (table (call 0 100 ∷ argument 9 ∷ argument 1 ∷ call 0 100 ∷ argument 10 ∷ argument 2 ∷ call 1 100 ∷ argument 9 ∷ call 2 100 ∷ argument 9
+    ∷ call 0 100 ∷ argument 0 ∷ argument 3 ∷ call 0 100 ∷ argument 10 ∷ argument 6 ∷ call 0 100 ∷ argument 9 ∷ argument 4 ∷ []))
+    (line "call 0 done" ++ line "call 1 done" ++ line "call 2 done" ++ line "call 3 done" ++ line "call 4 done" ++ line "call 5 stop 33 row 12" ++ line "call 6 done"
+    ++ line "store 0 0 3" ++ line "store 0 9 4" ++ line "store 0 10 2" ++ line "store 1 9 1 2")
+    -- records without fields
+    ∷ prints (table rowsBare) (table (call 0 100 ∷ [])) (line "call 0 done" ++ line "store 0 8" ++ line "store 1 7 (0)")
+    -- types 2, 9 and 10, addresses on both sides of 2^8, 2^32 and 2^63, a record in a field; two results
+    ∷ prints (table rowsTypes)
+    (table (call 2 100 ∷ argument 1 ∷ call 1 100 ∷ argument 9223372036854775808 ∷ call 1 100 ∷ argument 256 ∷ call 0 100 ∷ argument 4294967297
+    ∷ call 1 100 ∷ argument 255 ∷ call 0 100 ∷ argument 4294967295 ∷ call 3 100 ∷ call 1 100 ∷ argument 9223372036854775807 ∷ call 2 100 ∷ argument 0 ∷ []))
+    (line "call 0 done" ++ line "call 1 done" ++ line "call 2 done" ++ line "call 3 done" ++ line "call 4 done" ++ line "call 5 done" ++ line "call 6 done 3 2" ++ line "call 7 done" ++ line "call 8 done"
+    ++ line "store 2 4294967295 20" ++ line "store 2 4294967297 20"
+    ++ line "store 9 255 90" ++ line "store 9 256 90" ++ line "store 9 9223372036854775807 90" ++ line "store 9 9223372036854775808 90"
+    ++ line "store 10 0 (9 91) 10" ++ line "store 10 1 (9 91) 10")
+    ∷ []
+
 -- the limits of running: stops 36 to 38
 unfoldable pub runningLimits : List Example
 runningLimits =
@@ -281,7 +310,7 @@ runningLimits =
 
 -- all of them
 unfoldable pub examples : List Example
-examples = judgingRows ++ judgingValues ++ judgingWalks ++ judgingMarks ++ judgingOverwritten ++ judgingReadOnly ++ judgingHanded ++ runningCalls ++ runningLimits
+examples = judgingRows ++ judgingValues ++ judgingWalks ++ judgingMarks ++ judgingOverwritten ++ judgingReadOnly ++ judgingHanded ++ runningCalls ++ runningKeys ++ runningLimits
 
 -- what an example is answered with
 pub data Answer : Type 0 where

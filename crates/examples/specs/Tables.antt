@@ -259,6 +259,29 @@ rowsTwo =
     ∷ loadConst 2 ∷ pack 0 ∷ loadConst 8 ∷ moveTo 0
     ∷ loadConst 3 ∷ loadConst 8 ∷ borrowGlobal 0 ∷ borrowFld 0 0 ∷ writeRef ∷ ret ∷ []
 
+-- types 0 and 1 in one module, type 2 in another; a record of type 0 with a number is published under an address (procedure 0, MoveTo is row 12), one
+-- of type 1 (1) and one of type 2 (3), and one of type 0 is withdrawn and broken up (2)
+unfoldable pub rowsKeys : List (List ℕ)
+rowsKeys =
+    guest ∷ type ∷ number ∷ type ∷ number ∷ number
+    ∷ public ∷ parameter 0 0 ∷ parameter 0 0 ∷ mvLoc 1 ∷ pack 0 ∷ mvLoc 0 ∷ moveTo 0 ∷ ret
+    ∷ public ∷ parameter 0 0 ∷ loadConst 1 ∷ loadConst 2 ∷ pack 1 ∷ mvLoc 0 ∷ moveTo 1 ∷ ret
+    ∷ public ∷ parameter 0 0 ∷ mvLoc 0 ∷ moveFrom 0 ∷ unpack 0 ∷ pop ∷ ret ∷ guest ∷ type ∷ number
+    ∷ public ∷ parameter 0 0 ∷ loadConst 5 ∷ pack 2 ∷ mvLoc 0 ∷ moveTo 2 ∷ ret ∷ []
+
+-- type 0 has no fields, type 1 a record of it; one of each is published
+unfoldable pub rowsBare : List (List ℕ)
+rowsBare = guest ∷ type ∷ type ∷ recordField 0 ∷ public ∷ pack 0 ∷ pack 1 ∷ loadConst 7 ∷ moveTo 1 ∷ pack 0 ∷ loadConst 8 ∷ moveTo 0 ∷ ret ∷ []
+
+-- eleven types; a record of type 2 (procedure 0), 9 (1) or 10 (2) is published under an address; 3 and 2 are given (3)
+unfoldable pub rowsTypes : List (List ℕ)
+rowsTypes =
+    guest ∷ type ∷ type ∷ type ∷ number ∷ type ∷ type ∷ type ∷ type ∷ type ∷ type ∷ type ∷ number ∷ type ∷ recordField 9 ∷ number
+    ∷ public ∷ parameter 0 0 ∷ loadConst 20 ∷ pack 2 ∷ mvLoc 0 ∷ moveTo 2 ∷ ret
+    ∷ public ∷ parameter 0 0 ∷ loadConst 90 ∷ pack 9 ∷ mvLoc 0 ∷ moveTo 9 ∷ ret
+    ∷ public ∷ parameter 0 0 ∷ loadConst 91 ∷ pack 9 ∷ loadConst 10 ∷ pack 10 ∷ mvLoc 0 ∷ moveTo 10 ∷ ret
+    ∷ public ∷ result 0 0 ∷ result 0 0 ∷ loadConst 3 ∷ loadConst 2 ∷ ret ∷ []
+
 -- type 0 has a number, type 1 a number and a record of type 0, type 2 records of types 1 and 0. A record of type 2 is made and published; then 9 is
 -- written to the number that stands two records deep in it
 unfoldable pub rowsNested : List (List ℕ)

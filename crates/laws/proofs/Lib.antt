@@ -2,3 +2,4 @@ pub mod First
 pub mod Lists
 pub mod Numbers
 pub mod Cases
+pub mod Sorting

@@ -1,3 +1,4 @@
 pub mod First
 pub mod Lists
 pub mod Numbers
+pub mod Sorting

@@ -1,22 +1,24 @@
 -- The machine's text is the rules' text.
 use Prim.Native.Nat.{ℕ, zero, suc, _+_, _-_, _≤_}
 use mathlib.Core.Path.{_≡_, refl, ap, sym, _∙_}
+use mathlib.Core.Bool.{Bool, true, false, cond}
 use mathlib.Core.List.{List, [], _∷_, _++_, map, append-assoc}
 use mathlib.Core.Option.{Option, none, some}
 use mathlib.Core.Logic.{_⊎_, inl, inr, ⊎-elim}
 use native.Mathlib.Omega.{arith}
 use lib.ListN.{length, drop, replicate, length-append, length-map, length-drop, length-replicate, getElem? as nth}
+use Rattle.laws.specs.Sorting.{insertBy, sortBy}
 use Rattle.table.specs.declared.Verdict.the-variants.{Accepted}
 use Rattle.table.specs.Index.{indexOf}
 use Rattle.declarations.specs.Program.{procedureIn, localCount}
 use Rattle.judging.specs.Judging.{judgeOf}
 use Rattle.acceptance.specs.Judged.{Bytes, Judged}
 use Rattle.acceptance.proofs.Judged.{judged}
-use Rattle.semantics.specs.Machine.{Value, num, Cell, gone, here, Entry, Frame, frame, state}
+use Rattle.semantics.specs.Machine.{Value, num, Cell, gone, here, Entry, entry, Frame, frame, state}
 use Rattle.semantics.specs.Step.{startLocals}
 use Rattle.semantics.specs.Calls.{Call, call, listOf, callsOf}
 use Rattle.semantics.specs.History.{Base, base, Event, moment, ended, bury, restored, afterwards, Run, ran, go, begin, eventsOf, baseAfter, history, nothing, lastBase}
-use Rattle.semantics.specs.Text.{values, fieldsIn, fieldsText, entryLine, entryLines, callLine, callLines, storeLines, textOf}
+use Rattle.semantics.specs.Text.{values, fieldsIn, fieldsText, entryLine, entryLines, keyBefore, entryBefore, callLine, callLines, storeLines, textOf}
 use Rattle.semantics.specs.Run.{historyOf}
 use Rattle.semantics.specs.Callable.{Callable, GoodCall}
 use Rattle.semantics.specs.Claim.{All, none-left, also, IsNumber}
@@ -29,10 +31,10 @@ use Rattle.semantics.proofs.Ends.{ends, last-append, Quiet, go-quiet}
 use Rattle.semantics.proofs.Callable.{good-calls}
 use Rattle.state.specs.declared.Operand.{Operand}
 use Rattle.state.specs.declared.Operand.the-variants.{Empty, Number}
-use Rattle.machine.specs.Machine.{mframe, MRoom, mroom, MEntry, roomOf}
+use Rattle.machine.specs.Machine.{mframe, MRoom, mroom, MEntry, mentry, roomOf}
 use Rattle.machine.specs.Represents.{number, whole, toALocal, toAField, toARecord, ShowsAll, no-more, and, no-frame, and-frame, ShowsStore, no-entry, and-entry, ShowsRooms, usedCount, Represents, BaseShown}
 use Rattle.machine.specs.Runs.{MEnd, mgo}
-use Rattle.machine.specs.Lists.{MBase, mbase, mnothing, mafter, numbersOf, mbegin, mline, mlines, mlast, mvalues, fieldsOfRoom, mfields, mentryLine, mentryLines, mstoreLines, mtext}
+use Rattle.machine.specs.Lists.{MBase, mbase, mnothing, mafter, numbersOf, mbegin, mline, mlines, mlast, mvalues, fieldsOfRoom, mfields, mentryLine, mentryLines, mentryBefore, mstoreLines, mtext}
 use Rattle.machine.proofs.Shows.{all-more, start-shows, store-more}
 use Rattle.machine.proofs.Targets.{room-live, room-gone}
 use Rattle.machine.proofs.Runs.{SameEnd, end-stop, end-done, same-run}
@@ -69,6 +71,22 @@ module _ {R D : List ℕ} {rooms : List (Option MRoom)} {rs : List Cell} (h : Sh
   unfolding entryLines entryLine mentryLines mentryLine
   entries-same no-entry = refl
   entries-same (and-entry {s = s} {r} e q) = rw (fields-same 64 s r e, entries-same q)
+
+-- in their order, by the same keys
+insert-shows : {R : List ℕ} (y a s r : ℕ) → nth R s ≡ some r → {ms : List MEntry} {es : List Entry} → ShowsStore R ms es → ShowsStore R (insertBy mentryBefore (mentry y a s r) ms) (insertBy entryBefore (entry y a s) es)
+unfolding insertBy
+insert-shows y a s r e no-entry = and-entry e no-entry
+insert-shows {R} y a s r e (and-entry {y = y′} {a = a′} {s = s′} {r = r′} {ms} {es} e′ q) = go (keyBefore y a y′ a′) (insert-shows y a s r e q)
+  where
+    go : (b : Bool) → ShowsStore R (insertBy mentryBefore (mentry y a s r) ms) (insertBy entryBefore (entry y a s) es)
+        → ShowsStore R (cond b (mentry y a s r ∷ mentry y′ a′ s′ r′ ∷ ms) (mentry y′ a′ s′ r′ ∷ insertBy mentryBefore (mentry y a s r) ms)) (cond b (entry y a s ∷ entry y′ a′ s′ ∷ es) (entry y′ a′ s′ ∷ insertBy entryBefore (entry y a s) es))
+    go true i = and-entry e (and-entry e′ q)
+    go false i = and-entry e′ i
+
+sort-shows : {R : List ℕ} {ms : List MEntry} {es : List Entry} → ShowsStore R ms es → ShowsStore R (sortBy mentryBefore ms) (sortBy entryBefore es)
+unfolding sortBy
+sort-shows no-entry = no-entry
+sort-shows (and-entry {y} {a} {s} {r} e q) = insert-shows y a s r e (sort-shows q)
 
 -- more has at least as many
 more-length : (R R′ : List ℕ) → _⊑_ R R′ → length R ≤ length R′
@@ -205,8 +223,8 @@ module _ (t : List ℕ) where
         rw (last-append (eventsOf t (indexOf t) b r) (history t (indexOf t) cs (baseAfter t (indexOf t) b r)) c, events-last b r c quiet)
         (last-same cs _ (baseAfter t (indexOf t) b r) (baseAfter t (indexOf t) b r) refl a (call-run t J q budget args b d v) (one .1))
 
-  store-same : (mb : MBase) (b : Base) → Shown mb b → storeLines (λ (es : List Entry). es) b ≡ mstoreLines mb
-  store-same (mbase rooms recs es n) (base rs st m) s = entries-same (s .2 .rooms-show) (s .2 .store)
+  store-same : (mb : MBase) (b : Base) → Shown mb b → storeLines b ≡ mstoreLines mb
+  store-same (mbase rooms recs es n) (base rs st m) s = entries-same (s .2 .rooms-show) (sort-shows (s .2 .store))
 
 -- 128 free rooms
 free-rooms : (n : ℕ) → (usedCount (replicate n none) ≡ 0) × ((r : ℕ) (m : MRoom) → nth (replicate {A = Option MRoom} n none) r ≡ some (some m) → ⊥)
@@ -255,7 +273,7 @@ module _ (t : List ℕ) (J : Judged t (indexOf t)) where
       (baseAfter t (indexOf t) (w .0) (go t (indexOf t) budget (begin t (indexOf t) q args (w .0))), call-run t J q budget args (w .0) c (w .1), call-same t J 0 q budget args mb (w .0) c (w .1) (w .2) .1)
 
 -- the text of a good list over an accepted table, as the machine writes it
-pub text-same : (t l : List ℕ) (n k : ℕ) → Bytes t → Bytes l → judgeOf t ≡ Accepted n → listOf t (indexOf t) l ≡ Accepted k → textOf (λ (es : List Entry). es) (historyOf t l) ≡ mtext t (indexOf t) (callsOf l)
+pub text-same : (t l : List ℕ) (n k : ℕ) → Bytes t → Bytes l → judgeOf t ≡ Accepted n → listOf t (indexOf t) l ≡ Accepted k → textOf (historyOf t l) ≡ mtext t (indexOf t) (callsOf l)
 unfolding textOf mtext historyOf
 text-same t l n k bt bl e d =
     let J = judged t n bt e in

@@ -1,15 +1,17 @@
 -- A list of calls on the machine, and its text.
 use Prim.Native.Nat.{ℕ, zero, suc, _+_, _-_}
+use mathlib.Core.Bool.{Bool}
 use mathlib.Core.List.{List, [], _∷_, _++_, map}
 use mathlib.Core.Option.{Option, none, some}
 use lib.ListN.{length, replicate, getElem? as nth}
+use Rattle.laws.specs.Sorting.{sortBy}
 use Rattle.table.specs.declared.index.Index.{Index}
 use Rattle.table.specs.Format.{maxTypes}
 use Rattle.declarations.specs.Program.{procedureIn, localCount}
 use Rattle.semantics.specs.Machine.{num, state, finished, stopped}
 use Rattle.semantics.specs.Calls.{Call, call}
 use Rattle.semantics.specs.Ascii.{ascii}
-use Rattle.semantics.specs.Text.{decimal, spaced, callLine}
+use Rattle.semantics.specs.Text.{decimal, spaced, callLine, keyBefore}
 use Rattle.state.specs.declared.Operand.{Operand}
 use Rattle.state.specs.declared.Operand.the-variants.{Empty, Number, Record, Refer}
 use Rattle.machine.specs.Machine.{mframe, MRoom, mroom, MEntry, mentry, MState, mstate, mnext, mfinished, mstopped, mbroken, roomOf}
@@ -79,7 +81,7 @@ unfoldable pub mfields : ℕ → List (Option MRoom) → ℕ → ℕ → List �
 mfields zero rooms s r = []
 mfields (suc depth) rooms s r = mvalues (mfields depth rooms) (fieldsOfRoom (roomOf (nth rooms r) s))
 
--- the store's lines, as the entries stand
+-- the store's lines
 unfoldable pub mentryLine : List (Option MRoom) → MEntry → List ℕ
 mentryLine rooms (mentry y a s r) = ascii "store" ++ spaced (decimal y) ++ spaced (decimal a) ++ mfields maxTypes rooms s r ++ ascii "\n"
 
@@ -87,8 +89,15 @@ unfoldable pub mentryLines : List (Option MRoom) → List MEntry → List ℕ
 mentryLines rooms [] = []
 mentryLines rooms (e ∷ es) = mentryLine rooms e ++ mentryLines rooms es
 
+-- in order: by type, then by address
+abbrev pub mentryBefore : MEntry → MEntry → Bool
+mentryBefore (mentry y a s r) (mentry y′ a′ s′ r′) = keyBefore y a y′ a′
+
+abbrev pub minOrder : List (Option MRoom) → List MEntry → List ℕ
+minOrder rooms es = mentryLines rooms (sortBy mentryBefore es)
+
 abbrev pub mstoreLines : MBase → List ℕ
-mstoreLines (mbase rooms recs es n) = mentryLines rooms es
+mstoreLines (mbase rooms recs es n) = minOrder rooms es
 
 -- the whole text
 unfoldable pub mtext : List ℕ → Index → List Call → List ℕ

@@ -11,7 +11,6 @@ use Rattle.table.specs.declared.Verdict.the-variants.{Accepted}
 use Rattle.judging.specs.Judging.{judgeOf}
 use Rattle.acceptance.specs.Judged.{Bytes, Judged}
 use Rattle.acceptance.proofs.Judged.{judged}
-use Rattle.semantics.specs.Machine.{Entry}
 use Rattle.semantics.specs.Calls.{Call, call, listOf, callsOf}
 use Rattle.semantics.specs.Text.{textOf}
 use Rattle.semantics.specs.Run.{historyOf}
@@ -118,7 +117,7 @@ start-lasts = record {
 }
 
 -- the text of a good list over an accepted table
-pub text-is : (t l : List ℕ) (n k : ℕ) → Bytes t → Bytes l → judgeOf t ≡ Accepted n → listOf t (indexOf t) l ≡ Accepted k → textIn t (indexOf t) l ≡ textOf (λ (es : List Entry). es) (historyOf t l)
+pub text-is : (t l : List ℕ) (n k : ℕ) → Bytes t → Bytes l → judgeOf t ≡ Accepted n → listOf t (indexOf t) l ≡ Accepted k → textIn t (indexOf t) l ≡ textOf (historyOf t l)
 unfolding textIn mtext
 text-is t l n k bt bl e d =
     let J = judged t n bt e in

@@ -18,7 +18,7 @@ use Rattle.state.specs.declared.Operand.the-variants.{Empty}
 use Rattle.state.specs.declared.frames.State.{State}
 use Rattle.state.specs.Coding.{values, valueOf}
 use Rattle.state.specs.Cells.{cellsOf}
-use Rattle.machine.specs.Lists.{mentryLines}
+use Rattle.machine.specs.Lists.{minOrder}
 use Rattle.machine.specs.Views.{roomsIn, entriesIn}
 use Rattle.frame.specs.Turning.{after}
 use Rattle.interpreter.specs.Calls.{keptSince, sameRestored, callTurn, sameCall}
@@ -58,7 +58,7 @@ module _ (t : List ℕ) (ix : Index) (l : List ℕ) where
     text-other h q = rw (call-not l i (rowCount l) h q) refl
 
     pub text-done : (first : List ℕ) {u : List ℕ} {r : ℕ} → rowCount l ≤ i → placed first 0 (textIn t ix l) ≡ placed buffer at (textAt i k same cs ks s)
-        → Puts buffer at (mentryLines (roomsIn cs) (entriesIn cs (s .entries))) u r → Puts first 0 (textIn t ix l) u r
+        → Puts buffer at (minOrder (roomsIn cs) (entriesIn cs (s .entries))) u r → Puts first 0 (textIn t ix l) u r
     unfolding textFrom storeText
     text-done first h e p =
         let q : textAt i k same cs ks s ≡ storeText cs s = rw (calls-end l i (rowCount l) h) refl in

@@ -1,7 +1,7 @@
 -- Each refusal decides the run; where nothing is refused the text stands at the buffer's start.
 use Prim.Native.Nat.{ℕ, _+_, _<_, _≤_}
 use mathlib.Core.Path.{_≡_, refl, _∙_}
-use mathlib.Core.List.{List, [], _∷_}
+use mathlib.Core.List.{List}
 use native.Mathlib.Omega.{arith}
 use lib.ListN.{length}
 use borrow.Author.Tests.{lt-ltb, le-ltb}
@@ -11,28 +11,18 @@ use Rattle.table.specs.declared.index.Index.{Index}
 use Rattle.table.specs.Index.{indexOf}
 use Rattle.judging.specs.Judging.{judgeOf}
 use Rattle.acceptance.specs.Judged.{Bytes}
-use Rattle.semantics.specs.Machine.{Entry}
 use Rattle.semantics.specs.Calls.{listOf}
 use Rattle.semantics.specs.Text.{textOf}
 use Rattle.semantics.specs.Run.{minText, bufferOf, historyOf, answerWith, runOf}
-use Rattle.semantics.specs.Lengths.{Rearranged, none-at-all, same-first}
 use Rattle.semantics.proofs.Lengths.{text-fits}
 use Rattle.text.proofs.Placing.{Puts, placed-fits}
 use Rattle.running.specs.Lists.{textIn}
 use Rattle.running.proofs.Follows.{text-is}
 
--- the store's lines stand as its entries stand, the newest first
-abbrev pub asIs : List Entry → List Entry
-asIs es = es
-
-pub each-once : (es : List Entry) → Rearranged es (asIs es)
-each-once [] = none-at-all
-each-once (e ∷ es) = same-first (each-once es)
-
 module _ (t l buffer : List ℕ) where
   -- an answer, and the buffer afterwards
   abbrev pub Runs : Verdict → List ℕ → Type 0
-  Runs answer after = (answer ≡ (runOf asIs t l buffer) .answer) × (after ≡ (runOf asIs t l buffer) .buffer)
+  Runs answer after = (answer ≡ (runOf t l buffer) .answer) × (after ≡ (runOf t l buffer) .buffer)
 
   pub table-refused : (number row : ℕ) → judgeOf t ≡ Refused number row → Runs (Refused number row) buffer
   unfolding runOf answerWith
@@ -53,8 +43,8 @@ module _ (t l buffer : List ℕ) where
     pub runs : Bytes t → Bytes l → minText ≤ length buffer → {after : List ℕ} {size : ℕ} → Puts buffer 0 (textIn t ix l) after size → Runs (Accepted size) after
     unfolding runOf answerWith bufferOf
     runs bt bl h p =
-        let same : textIn t ix l ≡ textOf asIs (historyOf t l) = rw q (text-is t l n k bt bl e listed) in
-        let fits = placed-fits buffer 0 (textOf asIs (historyOf t l)) (omega (arith, text-fits asIs each-once t l n k bt bl e listed)) in
+        let same : textIn t ix l ≡ textOf (historyOf t l) = rw q (text-is t l n k bt bl e listed) in
+        let fits = placed-fits buffer 0 (textOf (historyOf t l)) (omega (arith, text-fits t l n k bt bl e listed)) in
         let put = rw same at p in
-        let from-start : 0 + length (textOf asIs (historyOf t l)) ≡ length (textOf asIs (historyOf t l)) = omega arith in
+        let from-start : 0 + length (textOf (historyOf t l)) ≡ length (textOf (historyOf t l)) = omega arith in
         rw (e, listed, le-ltb (length buffer) minText h, put .0 ∙ fits .0, put .1 ∙ fits .1, from-start) (refl, refl)

@@ -21,7 +21,6 @@ use Rattle.semantics.specs.Calls.{maxListBytes, listFault, listOf}
 use Rattle.semantics.specs.Text.{textOf}
 use Rattle.semantics.specs.Run.{minText, bufferOf, historyOf, answerWith, runOf}
 use Rattle.semantics.proofs.Lengths.{text-fits}
-use Rattle.running.proofs.Runs.{asIs, each-once}
 
 -- a list that is not too long has at most 256 rows
 list-value : (t : List ℕ) (ix : Index) (l : List ℕ) → valueOf (listOf t ix l) ≤ 256
@@ -33,16 +32,16 @@ list-value t ix l = go (ltb maxListBytes (length l)) refl (eqb (length l % rowBy
     go false e false = omega arith
     go false e true = omega (arith, first-value Refused 0 (λ k j. omega arith) (listFault t ix l) 0 (rowCount l), ltb-false maxListBytes (length l) e)
 
-pub run-small : (t l buffer : List ℕ) → Bytes t → Bytes l → valueOf ((runOf asIs t l buffer) .answer) ≤ 65536
+pub run-small : (t l buffer : List ℕ) → Bytes t → Bytes l → valueOf ((runOf t l buffer) .answer) ≤ 65536
 unfolding runOf answerWith bufferOf
 run-small t l buffer bt bl = judged-go (judgeOf t) refl
   where
     text : List ℕ
-    text = textOf asIs (historyOf t l)
+    text = textOf (historyOf t l)
 
     short : (b : Bool) (n k : ℕ) → judgeOf t ≡ Accepted n → listOf t (indexOf t) l ≡ Accepted k → valueOf (cond b (Refused 17 0) (Accepted (length text))) ≤ 65536
     short true n k e d = omega arith
-    short false n k e d = text-fits asIs each-once t l n k bt bl e d
+    short false n k e d = text-fits t l n k bt bl e d
 
     listed-go : (n : ℕ) → judgeOf t ≡ Accepted n → (v : Verdict) → listOf t (indexOf t) l ≡ v → valueOf (andThen v (cond (ltb (length buffer) minText) (Refused 17 0) (Accepted (length text)))) ≤ 65536
     listed-go n e (Accepted k) d = short (ltb (length buffer) minText) n k e d

@@ -14,7 +14,7 @@ use Rattle.state.specs.declared.Operand.the-variants.{Empty}
 use Rattle.state.specs.declared.frames.State.{State}
 use Rattle.state.specs.Coding.{numberOf}
 use Rattle.state.specs.Layout.{allCells}
-use Rattle.machine.specs.Lists.{mentryLines}
+use Rattle.machine.specs.Lists.{minOrder}
 use Rattle.machine.specs.Views.{roomsIn, entriesIn}
 use Rattle.frame.specs.Turning.{Turning, after, done, broken}
 use Rattle.interpreter.specs.Calls.{keptSince, sameRestored, callTurn, sameCall}
@@ -43,9 +43,9 @@ allEmpty = replicate allCells Empty
 abbrev pub onTurn : Turning → (List Operand → State → List ℕ) → List ℕ
 onTurn (after s cs) rest = rest cs s
 
--- the store's lines, the newest entry first
+-- the store's lines, in order
 unfoldable pub storeText : List Operand → State → List ℕ
-storeText cs s = mentryLines (roomsIn cs) (entriesIn cs (s .entries))
+storeText cs s = minOrder (roomsIn cs) (entriesIn cs (s .entries))
 
 -- the line of call i, which ended so, with the index of its table
 unfoldable pub lineOf : Index → ℕ → List Operand → State → List ℕ

@@ -1,7 +1,5 @@
 // Running a list of calls over a table: the table, the list and the buffer are judged first, and only then is anything run.
 ghost use mathlib.Core.Path.{_≡_};
-ghost use mathlib.Core.List.{List};
-ghost use Rattle.semantics.specs.Machine.{Entry};
 ghost use Rattle.semantics.specs.Run.{runOf};
 ghost use Rattle.text.specs.Placing.{placed};
 ghost use Rattle.state.specs.Cells.{cellsOf};
@@ -103,7 +101,7 @@ fn run_calls(table: &[u8], list: &[u8], index: Index, text: &mut [u8]) -> usize
 
 // Judges the table, then the list, then the buffer, and runs the calls: a refusal, or the length of the text, which stands at the buffer's start.
 pub fn run_list(table: &[u8], list: &[u8], text: &mut [u8]) -> Verdict
-    ensures { λ r. ⌜ (r ≡ (runOf (λ (es : List Entry). es) (now (table .entry)) (now (list .entry)) (now (text .entry))) .answer) × (now (text .exit) ≡ (runOf (λ (es : List Entry). es) (now (table .entry)) (now (list .entry)) (now (text .entry))) .buffer) ⌝ }
+    ensures { λ r. ⌜ (r ≡ (runOf (now (table .entry)) (now (list .entry)) (now (text .entry))) .answer) × (now (text .exit) ≡ (runOf (now (table .entry)) (now (list .entry)) (now (text .entry))) .buffer) ⌝ }
 {
     let judged = judging::judge_table(table);
     if let Verdict::Refused(number, row) = judged {

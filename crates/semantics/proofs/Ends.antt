@@ -36,6 +36,11 @@ last-append [] es′ b = refl
 last-append (moment s r o ∷ es) es′ b = last-append es es′ b
 last-append (ended before s r o after ∷ es) es′ b = last-append es es′ after
 
+-- what there is at the end is what the last call left
+pub last-left : (es : List Event) (before after b : Base) (s : State) (row : ℕ) (o : Outcome) → lastBase (es ++ (ended before s row o after ∷ [])) b ≡ after
+unfolding lastBase
+last-left es before after b s row o = last-append es (ended before s row o after ∷ []) b
+
 -- where no call ends, nothing changes
 pub last-quiet : (es : List Event) (b : Base) → ends es ≡ 0 → lastBase es b ≡ b
 unfolding lastBase

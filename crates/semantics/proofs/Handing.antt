@@ -19,7 +19,7 @@ use Rattle.arithmetic.specs.declared.Calculated.the-variants.{Value as Gives, O
 use Rattle.arithmetic.specs.Arithmetic.{calculation}
 use Rattle.semantics.specs.Machine.{Ref, toLocal, toField, toRecord, Value, num, obj, refer, valueKind, writable, Cell, gone, here, Entry, Frame, frame, State, state, next, stuck, liveCount, findKey, putLocal, Target, aRecord, inCell, target, writeFrames}
 use Rattle.semantics.specs.Step.{pushedOn, Taken, took, missing, taken, alsoTaken, withTaken, startLocals, returned, noneHeld, calculated, actions, instruction, effectAt, act, step}
-use Rattle.semantics.specs.Limits.{maxFrames, maxRecords, maxEntries}
+use Rattle.semantics.specs.Limits.{maxFrames, maxRecords, maxEntries, outOfRange, keyTaken, noSuchKey, tooManyFrames, tooManyRecords, tooManyEntries}
 use Rattle.semantics.specs.Words.{bodyOf, Holds, operand, local}
 use Rattle.semantics.specs.Claim.{All, none-left, also, Rising, IsReference, Makes, local-made, field-made, nested-made, entry-made, frozen-made, Takes, Handed, goesOn, writes, calls, returns, Origin}
 use Rattle.semantics.proofs.Changes.{clash}
@@ -213,7 +213,7 @@ module _ (t : List ℕ) (ix : Index) (T : List ℕ) (row id p i : ℕ) (ops : Li
 
     given : rowAt t row .a ≡ 19 → (c : Calculated) → OutQ G E (calculated (rowAt t row .b) (rowAt t row .d) (localKind t (procedureIn ix p) (rowAt t row .b)) (localCount (procedureIn ix (rowAt t row .b)) - length vs) vs id p i under ls fs rs st n c)
     given e (Gives x) = on 19 (i + 1) {ws = num x ∷ []} refl e (also (number-known x) none-left) slots-known
-    given e OutOfRange = stops
+    given e OutOfRange = stops outOfRange (omega arith)
     given e Unknown = sticks
 
     acted : OutQ G E (getD (actions (rowAt t row .b) (rowAt t row .d) (localKind t (procedureIn ix p) (rowAt t row .b)) (localCount (procedureIn ix (rowAt t row .b)) - length vs) vs id p i under ls fs rs st n) (rowAt t row .a) stuck)
@@ -239,22 +239,22 @@ module _ (t : List ℕ) (ix : Index) (T : List ℕ) (row id p i : ℕ) (ops : Li
                           (on 8 (i + 1) {ws = refer (writable r) (toField c (b / 8) (b % 8)) ∷ []} refl e (also (λ w. inr (field-made e (top r q) (leads r c ws z))) none-left) slots-known)
                           (λ c′ y u. on 8 (i + 1) {ws = refer (writable r) (toRecord c′ y) ∷ []} refl e (also (λ w. inr (nested-made e (top r q) (leads r c ws z) u)) none-left) slots-known)))),
                       (
-                        (λ e. cond-q G E (ltb (liveCount rs) maxRecords) _ _ (on 9 (i + 1) {ws = obj (length rs) b ∷ []} refl e (also (record-known (length rs) b) none-left) slots-known) stops),
+                        (λ e. cond-q G E (ltb (liveCount rs) maxRecords) _ _ (on 9 (i + 1) {ws = obj (length rs) b ∷ []} refl e (also (record-known (length rs) b) none-left) slots-known) (stops tooManyRecords (omega arith))),
                         (
                           (λ e. one-q G E vs _ (λ v q. record-q G E v _ (λ a. fields-at-q G E (inCell a (nth rs a)) _ (λ c ws z. let y = in-cell-here a (nth rs a) c ws z in on 10 (i + 1) {ws = ws} refl e (cells-known a (y .0) ws (y .1)) slots-known)))),
                           (
                             (λ e. two-q G E vs _ (λ v w q. record-q G E v _ (λ r. number-q G E w _ (λ a u. key-q G E (findKey st b a) _ _
-                                (cond-q G E (ltb (length st) maxEntries) _ _ (on 11 (i + 1) {ws = []} refl e none-left slots-known) stops) (λ r′ z. stops))))),
+                                (cond-q G E (ltb (length st) maxEntries) _ _ (on 11 (i + 1) {ws = []} refl e none-left slots-known) (stops tooManyEntries (omega arith))) (λ r′ z. stops keyTaken (omega arith)))))),
                             (
-                              (λ e. one-q G E vs _ (λ w q. number-q G E w _ (λ a u. key-q G E (findKey st b a) _ _ stops (λ r z. on 12 (i + 1) {ws = obj r b ∷ []} refl e (also (record-known r b) none-left) slots-known)))),
+                              (λ e. one-q G E vs _ (λ w q. number-q G E w _ (λ a u. key-q G E (findKey st b a) _ _ (stops noSuchKey (omega arith)) (λ r z. on 12 (i + 1) {ws = obj r b ∷ []} refl e (also (record-known r b) none-left) slots-known)))),
                               (
-                                (λ e. one-q G E vs _ (λ w q. number-q G E w _ (λ a u. key-q G E (findKey st b a) _ _ stops
+                                (λ e. one-q G E vs _ (λ w q. number-q G E w _ (λ a u. key-q G E (findKey st b a) _ _ (stops noSuchKey (omega arith))
                                     (λ r z. on 13 (i + 1) {ws = refer true (toRecord r b) ∷ []} refl e (also (λ k. inr (entry-made e (top (num a) (q ∙ ap (λ (x : Value). x ∷ []) u)) z)) none-left) slots-known)))),
                                 (
                                   (λ e. one-q G E vs _ (λ w q. number-q G E w _ (λ a u. key-q G E (findKey st b a) _ _ (on 14 (i + 1) {ws = num 0 ∷ []} refl e (also (number-known 0) none-left) slots-known)
                                       (λ r z. on 14 (i + 1) {ws = num 1 ∷ []} refl e (also (number-known 1) none-left) slots-known)))),
                                   (
-                                    (λ e. cond-q G E (ltb (length fs + 1) maxFrames) _ _ (called e) stops),
+                                    (λ e. cond-q G E (ltb (length fs + 1) maxFrames) _ _ (called e) (stops tooManyFrames (omega arith))),
                                     (
                                       (λ e. cond-q G E (noneHeld ls) _ _ (under-q G E under _ (λ u. back fs refl e u)) sticks),
                                       (

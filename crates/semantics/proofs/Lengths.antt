@@ -5,6 +5,7 @@ use mathlib.Core.List.{List, [], _∷_}
 use mathlib.Core.Option.{some}
 use native.Mathlib.Omega.{arith}
 use lib.ListN.{length, length-append, getElem? as nth}
+use Rattle.laws.specs.Sorting.{sortBy}
 use Rattle.table.specs.declared.Verdict.the-variants.{Accepted}
 use Rattle.table.specs.Format.{maxTypes}
 use Rattle.table.specs.Index.{indexOf}
@@ -15,11 +16,11 @@ use Rattle.semantics.specs.Machine.{Value, obj, Cell, here, Entry, entry
 use Rattle.semantics.specs.Calls.{listOf, callsOf}
 use Rattle.semantics.specs.History.{Base, base, Event, moment, ended, history, nothing, lastBase}
 use Rattle.semantics.specs.Ascii.{ascii}
-use Rattle.semantics.specs.Text.{decimal, values, fieldsText, entryLine, entryLines, ending, callLine, callLines, storeLines, textOf}
+use Rattle.semantics.specs.Text.{decimal, values, fieldsText, entryLine, entryLines, entryBefore, ending, callLine, callLines, storeLines, textOf}
 use Rattle.semantics.specs.Run.{historyOf}
 use Rattle.semantics.specs.Ownership.{inValues, inRecords, inStore, livesAt}
 use Rattle.semantics.specs.Claim.{All, none-left, also, SafeEnd, finishes, restores, Safe, ends as at-end, IsNumber}
-use Rattle.semantics.specs.Lengths.{Rearranged, none-at-all, same-first, first-swapped, one-after-another}
+use Rattle.semantics.specs.Told.{Rearranged, none-at-all, same-first, first-swapped, one-after-another}
 use Rattle.semantics.proofs.Typing.{Fields, dnil, dnum, dobj}
 use Rattle.semantics.proofs.Running.{Rest}
 use Rattle.semantics.proofs.Callable.{list-rows, good-calls}
@@ -27,6 +28,7 @@ use Rattle.semantics.proofs.Owning.{cell-here}
 use Rattle.semantics.proofs.Invariant.{BaseOk, nothing-ok}
 use Rattle.semantics.proofs.Demand3.{demand3}
 use Rattle.semantics.proofs.Printed.{decimal-few, number-text, record-text, text-bound}
+use Rattle.semantics.proofs.Order.{each-once}
 use Rattle.semantics.proofs.Ends.{ends, history-ends, history-last, calls-in-rows}
 
 -- The calls' lines. Results are numbers: at most 21 bytes each
@@ -108,27 +110,27 @@ module _ (t : List ℕ) (J : Judged t (indexOf t)) where
       omega (arith, fields-length (c .1), J .declared y (c .0) .fields, J .declared y (c .0) .few)
 
   -- 64 entries, and 8 fields in each of 128 records
-  store-text : (order : List Entry → List Entry) → ((st : List Entry) → Rearranged st (order st)) → (b : Base) → BaseOk t J b → length (storeLines order b) ≤ 26624
+  store-text : (b : Base) → BaseOk t J b → length (storeLines b) ≤ 26624
   unfolding BaseOk
-  store-text order free (base rs st n) v =
-      let st′ = order st in
-      let owns : (r : ℕ) → inValues r (roots st′) + inRecords r rs ≤ livesAt rs r = λ r. omega (arith, v .0 .owned r, roots-held r st′, rearranged-held r (free st)) in
-      omega (arith, entries-text rs st′, text-bound maxTypes rs (roots st′) (fields-few rs st (v .0)) owns, roots-length st′, rearranged-length (free st), v .1 .few, v .1 .entries)
+  store-text (base rs st n) v =
+      let st′ = sortBy entryBefore st in
+      let owns : (r : ℕ) → inValues r (roots st′) + inRecords r rs ≤ livesAt rs r = λ r. omega (arith, v .0 .owned r, roots-held r st′, rearranged-held r (each-once st)) in
+      omega (arith, entries-text rs st′, text-bound maxTypes rs (roots st′) (fields-few rs st (v .0)) owns, roots-length st′, rearranged-length (each-once st), v .1 .few, v .1 .entries)
 
--- the text of a good list fits the shortest buffer, in whatever order the store's lines are: 256 · 120 + 64 · 48 + 128 · 8 · 23 bytes at most
-pub text-fits : (order : List Entry → List Entry) → ((st : List Entry) → Rearranged st (order st)) → (t l : List ℕ) (n k : ℕ) → Bytes t → Bytes l
-    → judgeOf t ≡ Accepted n → listOf t (indexOf t) l ≡ Accepted k → length (textOf order (historyOf t l)) ≤ 65536
+-- the text of a good list fits the shortest buffer: 256 · 120 + 64 · 48 + 128 · 8 · 23 bytes at most
+pub text-fits : (t l : List ℕ) (n k : ℕ) → Bytes t → Bytes l
+    → judgeOf t ≡ Accepted n → listOf t (indexOf t) l ≡ Accepted k → length (textOf (historyOf t l)) ≤ 65536
 unfolding textOf historyOf
-text-fits order free t l n k bt bl e d =
+text-fits t l n k bt bl e d =
     let J = judged t n bt e in
     let es = history t (indexOf t) (callsOf l) nothing in
     let b = history-last t J (callsOf l) nothing (good-calls t (indexOf t) l k bl d) (nothing-ok t J) in
     omega (
       arith,
-      length-append (callLines 0 es) (storeLines order (lastBase es nothing)),
+      length-append (callLines 0 es) (storeLines (lastBase es nothing)),
       lines-text t 0 es (demand3 t l n k bt bl e d .safe),
       history-ends t (indexOf t) (callsOf l) nothing,
       calls-in-rows l,
       list-rows t (indexOf t) l k d,
-      store-text t J order free (lastBase es nothing) b,
+      store-text t J (lastBase es nothing) b,
     )

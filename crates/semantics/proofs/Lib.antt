@@ -24,6 +24,10 @@ pub mod Invariant
 pub mod Demand3
 pub mod Printed
 pub mod Ends
+pub mod Decimal
+pub mod Order
+pub mod Told
+pub mod OneText
 pub mod Lengths
 pub mod Consequences
 pub mod ReadOnly

@@ -1,5 +1,5 @@
 -- A property of what an instruction comes to, brought through the parts of which `actions` is made.
-use Prim.Native.Nat.{ℕ, zero, suc, _+_}
+use Prim.Native.Nat.{ℕ, zero, suc, _+_, _<_}
 use mathlib.Core.Path.{_≡_, refl, ap}
 use mathlib.Core.List.{List, [], _∷_}
 use mathlib.Core.Bool.{Bool, true, false, cond}
@@ -7,14 +7,16 @@ use mathlib.Core.Option.{Option, none, some}
 use native.Mathlib.Omega.{arith}
 use lib.ListN.{getD}
 use Rattle.semantics.specs.Machine.{Ref, toField, toRecord, Value, num, obj, refer, Cell, Entry, Frame, State, state, Outcome, next, finished, stopped, stuck, Target, aNumber, aRecord, stale, wrong}
+use Rattle.arithmetic.specs.Arithmetic.{pastNumbers}
+use Rattle.semantics.specs.Limits.{staleReference}
 use Rattle.semantics.specs.Step.{one, two, withNumber, withRecord, withReference, numberAt, recordAt, fieldsAt, withLocal, isObject, fillable, nothingUnder, fieldReference, underKey}
 
--- G of the frames and their count where it goes on, E of the results and the state where the call is done
+-- G of the frames and their count where it goes on, E of the results and the state where the call is done; a stop is a number of 64 bits
 module _ (G : List Frame → ℕ → Type 0) (E : List Value → State → Type 0) where
   pub data OutQ : Outcome → Type 0 where
     goes : {fs : List Frame} {rs : List Cell} {st : List Entry} {n : ℕ} → G fs n → OutQ (next (state fs rs st n))
     ends : {vs : List Value} {s : State} → E vs s → OutQ (finished vs s)
-    stops : {k : ℕ} → OutQ (stopped k)
+    stops : (k : ℕ) → k < pastNumbers → OutQ (stopped k)
     sticks : OutQ stuck
 
   pub cond-q : (c : Bool) (x y : Outcome) → OutQ x → OutQ y → OutQ (cond c x y)
@@ -53,13 +55,13 @@ module _ (G : List Frame → ℕ → Type 0) (E : List Value → State → Type 
   pub number-at-q : (x : Target) (k : ℕ → Outcome) → ((n : ℕ) → OutQ (k n)) → OutQ (numberAt x k)
   number-at-q (aNumber n) k f = f n
   number-at-q (aRecord a vs) k f = sticks
-  number-at-q stale k f = stops
+  number-at-q stale k f = stops staleReference (omega arith)
   number-at-q wrong k f = sticks
 
   pub record-at-q : (x : Target) (k : ℕ → List Value → Outcome) → ((a : ℕ) (vs : List Value) → x ≡ aRecord a vs → OutQ (k a vs)) → OutQ (recordAt x k)
   record-at-q (aNumber n) k f = sticks
   record-at-q (aRecord a vs) k f = f a vs refl
-  record-at-q stale k f = stops
+  record-at-q stale k f = stops staleReference (omega arith)
   record-at-q wrong k f = sticks
 
   pub fields-at-q : (x : Target) (k : List Value → Outcome) → ((a : ℕ) (vs : List Value) → x ≡ aRecord a vs → OutQ (k vs)) → OutQ (fieldsAt x k)

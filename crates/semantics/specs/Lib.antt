@@ -11,4 +11,4 @@ pub mod Words
 pub mod Claim
 pub mod Chain
 pub mod Callable
-pub mod Lengths
+pub mod Told

@@ -10,7 +10,6 @@ use Rattle.table.specs.Index.{indexOf}
 use Rattle.table.specs.Verdicts.{andThen}
 use Rattle.table.specs.Refusals.{smallBuffer}
 use Rattle.judging.specs.Judging.{judgeOf}
-use Rattle.semantics.specs.Machine.{Entry}
 use Rattle.semantics.specs.Calls.{listOf, callsOf}
 use Rattle.semantics.specs.History.{Event, history, nothing}
 use Rattle.semantics.specs.Text.{textOf}
@@ -41,8 +40,8 @@ pub record Ran : Type 0 where
   pub answer : Verdict
   pub buffer : List ℕ
 
-unfoldable pub runOf : (List Entry → List Entry) → List ℕ → List ℕ → List ℕ → Ran
-runOf order t l buffer =
-    let text = textOf order (historyOf t l) in
+unfoldable pub runOf : List ℕ → List ℕ → List ℕ → Ran
+runOf t l buffer =
+    let text = textOf (historyOf t l) in
     let answer = answerWith t l buffer text in
     record { answer = answer; buffer = bufferWith answer buffer text }

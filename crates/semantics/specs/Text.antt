@@ -1,10 +1,11 @@
 -- The text of a history (document 01, "Running"), as bytes.
 use Prim.Native.Nat.{ℕ, zero, suc, _+_, _/_, _%_}
-use mathlib.Core.Bool.{cond}
+use mathlib.Core.Bool.{Bool, cond}
 use mathlib.Core.List.{List, [], _∷_, _++_}
 use mathlib.Core.Option.{Option, none, some}
-use lib.Dec.{ltb}
+use lib.Dec.{eqb, ltb}
 use lib.ListN.{getElem? as nth}
+use Rattle.laws.specs.Sorting.{sortBy}
 use Rattle.table.specs.Format.{maxTypes}
 use Rattle.semantics.specs.Machine.{Value, num, obj, refer, Cell, gone, here, Entry, entry, Outcome, next, finished, stopped, stuck}
 use Rattle.semantics.specs.Ascii.{ascii}
@@ -64,10 +65,17 @@ callLines i [] = []
 callLines i (moment s r o ∷ es) = callLines i es
 callLines i (ended before s r o after ∷ es) = callLine i r o ++ callLines (i + 1) es
 
--- the store's lines, in an order that is left free: `order` lists each entry once
-abbrev pub storeLines : (List Entry → List Entry) → Base → List ℕ
-storeLines order (base rs st n) = entryLines rs (order st)
+-- the order of the store's lines (document 02, paper 3): by type, then by address, both as numbers
+abbrev pub keyBefore : ℕ → ℕ → ℕ → ℕ → Bool
+keyBefore y a y′ a′ = cond (eqb y y′) (ltb a a′) (ltb y y′)
+
+abbrev pub entryBefore : Entry → Entry → Bool
+entryBefore (entry y a id) (entry y′ a′ id′) = keyBefore y a y′ a′
+
+-- the store's lines, in this order
+abbrev pub storeLines : Base → List ℕ
+storeLines (base rs st n) = entryLines rs (sortBy entryBefore st)
 
 -- the whole text
-unfoldable pub textOf : (List Entry → List Entry) → List Event → List ℕ
-textOf order es = callLines 0 es ++ storeLines order (lastBase es nothing)
+unfoldable pub textOf : List Event → List ℕ
+textOf es = callLines 0 es ++ storeLines (lastBase es nothing)

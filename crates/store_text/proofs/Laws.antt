@@ -2,12 +2,13 @@
 use Prim.Native.Nat.{ℕ, zero, suc, _+_, _-_, _<_, _≤_}
 use mathlib.Core.Path.{_≡_, refl, sym, ap, _∙_}
 use mathlib.Core.Bool.{Bool, true, false, cond}
-use mathlib.Core.List.{List, [], _∷_, _++_, append-assoc, append-nil}
+use mathlib.Core.List.{List, [], _∷_, _++_, map, append-assoc, append-nil}
 use mathlib.Core.Option.{Option, none, some}
-use native.Mathlib.Numerals.{unary-clauses}
+use native.Mathlib.Numerals.{unary-clauses, add-one}
 use native.Mathlib.Omega.{arith}
 use lib.Dec.{eqb}
-use lib.ListN.{getD, getElem? as nth}
+use lib.ListN.{length, getD, drop, drop-of-length-le, getElem? as nth}
+use lib.Seq.{drop-cons}
 use Rattle.table.specs.Format.{maxTypes}
 use Rattle.semantics.specs.Ascii.{ascii}
 use Rattle.semantics.specs.Text.{decimal, spaced}
@@ -18,7 +19,7 @@ use Rattle.state.specs.Layout.{entryCell, roomCell}
 use Rattle.state.specs.Rooms.{isLive}
 use Rattle.machine.specs.Machine.{MRoom, mroom, roomOf}
 use Rattle.machine.specs.Lists.{mvalues, fieldsOfRoom, mfields, mentryLine, mentryLines}
-use Rattle.machine.specs.Views.{upFrom, roomBy, roomIn, roomsIn, entryIn, entriesIn}
+use Rattle.machine.specs.Views.{upFrom, roomBy, roomIn, roomsIn, entryIn}
 use Rattle.machine.proofs.Views.{up-append}
 use Rattle.machine.proofs.Memory.{headIn, room-at, room-past}
 use Rattle.text.specs.Placing.{placed}
@@ -105,13 +106,13 @@ entry-line cs i s at {o} {y} {a} {b} {m} o-is y-is a-is b-is m-is p₁ p₂ p₃
     let w₄ = w₃ ++ mfields maxTypes (roomsIn cs) b m in
     rw (← o-is, ← y-is, ← a-is, ← b-is, ← m-is) (puts-more s at w₄ (ascii "\n") _ _ (puts-more s at w₃ (mfields maxTypes (roomsIn cs) b m) _ _ (puts-more s at w₂ (spaced (decimal a)) _ _ (puts-more s at (ascii "store") (spaced (decimal y)) _ _ p₁ p₂) p₃) p₄) p₅)
 
--- the lines of the first i entries are the line of the last of them, and the lines of those before it
-pub lines-more : (rooms : List (Option MRoom)) (cs : List Operand) (i k : ℕ) (t : List ℕ) (e : ℕ) {u : List ℕ} {r : ℕ} → i ≡ suc k → Puts t e (mentryLine rooms (entryIn cs k)) u r
-    → placed t e (mentryLines rooms (entriesIn cs i)) ≡ placed u r (mentryLines rooms (entriesIn cs k))
-unfolding entriesIn mentryLines
-lines-more rooms cs i k t e q p = rw (q, placed-append t e (mentryLine rooms (entryIn cs k)) (mentryLines rooms (entriesIn cs k)), ← (p .0), ← (p .1))
+-- the lines of the entries whose numbers stand from place i on: that of the first of them, and those of the rest
+pub lines-more : (rooms : List (Option MRoom)) (cs : List Operand) (numbers : List ℕ) (i : ℕ) (t : List ℕ) (e : ℕ) {u : List ℕ} {r : ℕ} → i < length numbers → Puts t e (mentryLine rooms (entryIn cs (getD numbers i 0))) u r
+    → placed t e (mentryLines rooms (map (entryIn cs) (drop i numbers))) ≡ placed u r (mentryLines rooms (map (entryIn cs) (drop (i + 1) numbers)))
+unfolding mentryLines
+lines-more rooms cs numbers i t e l p = rw (drop-cons numbers i 0 l, add-one i, placed-append t e (mentryLine rooms (entryIn cs (getD numbers i 0))) (mentryLines rooms (map (entryIn cs) (drop (suc i) numbers))), ← (p .0), ← (p .1))
 
 -- no entry is left
-pub lines-done : (rooms : List (Option MRoom)) (cs : List Operand) (i : ℕ) (s : List ℕ) (at : ℕ) (bytes t : List ℕ) (e : ℕ) → i ≡ 0 → placed s at bytes ≡ placed t e (mentryLines rooms (entriesIn cs i)) → Puts s at bytes t e
-unfolding entriesIn mentryLines placed
-lines-done rooms cs i s at bytes t e q h = rw (h, q) (refl, refl)
+pub lines-done : (rooms : List (Option MRoom)) (cs : List Operand) (numbers : List ℕ) (i : ℕ) (s : List ℕ) (at : ℕ) (bytes t : List ℕ) (e : ℕ) → length numbers ≤ i → placed s at bytes ≡ placed t e (mentryLines rooms (map (entryIn cs) (drop i numbers))) → Puts s at bytes t e
+unfolding mentryLines placed
+lines-done rooms cs numbers i s at bytes t e l h = rw (h, drop-of-length-le numbers l) (refl, refl)

@@ -1,17 +1,22 @@
 // The lines of the store (document 01, "Running"), written into a lent buffer: each function puts its bytes from `at` on, as far as there is room,
 // and returns the place after the last byte that it put.
+ghost use Prim.Native.Nat.{_≤_};
 ghost use mathlib.Core.Path.{_≡_};
-ghost use mathlib.Core.List.{[], _∷_, _++_};
+ghost use mathlib.Core.List.{[], _∷_, _++_, map};
+ghost use lib.ListN.{length};
 ghost use Rattle.semantics.specs.Ascii.{ascii};
 ghost use Rattle.semantics.specs.Text.{decimal, spaced};
 ghost use Rattle.text.specs.Placing.{placed};
 ghost use Rattle.state.specs.Cells.{cellsOf};
-ghost use Rattle.machine.specs.Lists.{mvalues, mfields, mentryLine, mentryLines};
+ghost use Rattle.machine.specs.Lists.{mvalues, mfields, mentryLine, mentryLines, minOrder};
 ghost use Rattle.machine.specs.Views.{roomsIn, entryIn, entriesIn};
+ghost use Rattle.store_text.specs.Order.{numbersInOrder};
 use state::Operand;
 use state::entries;
 use state::rooms;
 use table::format;
+
+mod order;
 
 // Puts a space and a number.
 fn put_number(text: &mut [u8], at: usize, n: u64) -> usize
@@ -95,15 +100,33 @@ fn put_entry(text: &mut [u8], at: usize, cells: &[u64], i: u8) -> usize
     text::put_byte(text, end, b'\n')
 }
 
-// Puts the lines of the first `count` entries, the newest, which is the last, first.
-pub fn put_entries(text: &mut [u8], at: usize, cells: &[u64], count: u8) -> usize
-    ensures { λ r. ⌜ (now (text .exit) ≡ (placed (now (text .entry)) at (mentryLines (roomsIn (cellsOf (now (cells .entry)))) (entriesIn (cellsOf (now (cells .entry))) count))) .buffer) × (r ≡ (placed (now (text .entry)) at (mentryLines (roomsIn (cellsOf (now (cells .entry)))) (entriesIn (cellsOf (now (cells .entry))) count))) .end) ⌝ }
+// Puts the lines of entries, by their numbers.
+fn put_lines(text: &mut [u8], at: usize, cells: &[u64], numbers: &[u8]) -> usize
+    ensures { λ r. ⌜ (now (text .exit) ≡ (placed (now (text .entry)) at (mentryLines (roomsIn (cellsOf (now (cells .entry)))) (map (entryIn (cellsOf (now (cells .entry)))) (now (numbers .entry))))) .buffer) × (r ≡ (placed (now (text .entry)) at (mentryLines (roomsIn (cellsOf (now (cells .entry)))) (map (entryIn (cellsOf (now (cells .entry)))) (now (numbers .entry))))) .end) ⌝ }
 {
     let mut end = at;
-    let mut i = count;
-    while 0 < i {
-        i -= 1;
-        end = put_entry(text, end, cells, i);
+    let mut i: usize = 0;
+    while i < numbers.len() {
+        end = put_entry(text, end, cells, numbers[i]);
+        i += 1;
     }
     end
+}
+
+// Puts the lines of the first entries in order, as many as numbers are lent, which are theirs afterwards.
+fn put_in_order(text: &mut [u8], at: usize, cells: &[u64], numbers: &mut [u8]) -> usize
+    requires { ⌜ length (now numbers) ≤ 256 ⌝ }
+    ensures { λ r. ⌜ (now (text .exit) ≡ (placed (now (text .entry)) at (minOrder (roomsIn (cellsOf (now (cells .entry)))) (entriesIn (cellsOf (now (cells .entry))) (length (now (numbers .entry)))))) .buffer) × (r ≡ (placed (now (text .entry)) at (minOrder (roomsIn (cellsOf (now (cells .entry)))) (entriesIn (cellsOf (now (cells .entry))) (length (now (numbers .entry)))))) .end) × (now (numbers .exit) ≡ numbersInOrder (cellsOf (now (cells .entry))) (length (now (numbers .entry)))) ⌝ }
+{
+    order::sort(cells, numbers);
+    put_lines(text, at, cells, numbers)
+}
+
+// Puts the lines of the first `count` entries, in order.
+pub fn put_entries(text: &mut [u8], at: usize, cells: &[u64], count: u8) -> usize
+    ensures { λ r. ⌜ (now (text .exit) ≡ (placed (now (text .entry)) at (minOrder (roomsIn (cellsOf (now (cells .entry)))) (entriesIn (cellsOf (now (cells .entry))) count))) .buffer) × (r ≡ (placed (now (text .entry)) at (minOrder (roomsIn (cellsOf (now (cells .entry)))) (entriesIn (cellsOf (now (cells .entry))) count))) .end) ⌝ }
+{
+    let n = count as usize;
+    let mut numbers = [0u8; 255];
+    put_in_order(text, at, cells, &mut numbers[..n])
 }

@@ -1,7 +1,5 @@
 // The functions that a host written in C calls.
 ghost use mathlib.Core.Path.{_≡_};
-ghost use mathlib.Core.List.{List};
-ghost use Rattle.semantics.specs.Machine.{Entry};
 ghost use Rattle.semantics.specs.Run.{runOf};
 ghost use Rattle.judging.specs.Judging.{judgeOf, answerOf};
 
@@ -15,10 +13,10 @@ pub extern "C" fn yithrel_judge(table: &[u8]) -> u64
 }
 
 // Runs a list of calls over a table, and puts the text at the buffer's start. The answer is number * 2^32 + value: number 0 with the text's
-// length, else the refusal with its row; then the buffer is as it was. A store line stands for each entry, the newest first.
+// length, else the refusal with its row; then the buffer is as it was. A store line stands for each entry, rising by type, then by address.
 #[no_mangle]
 pub extern "C" fn yithrel_run(table: &[u8], list: &[u8], text: &mut [u8]) -> u64
-    ensures { λ r. ⌜ (r ≡ answerOf ((runOf (λ (es : List Entry). es) (now (table .entry)) (now (list .entry)) (now (text .entry))) .answer)) × (now (text .exit) ≡ (runOf (λ (es : List Entry). es) (now (table .entry)) (now (list .entry)) (now (text .entry))) .buffer) ⌝ }
+    ensures { λ r. ⌜ (r ≡ answerOf ((runOf (now (table .entry)) (now (list .entry)) (now (text .entry))) .answer)) × (now (text .exit) ≡ (runOf (now (table .entry)) (now (list .entry)) (now (text .entry))) .buffer) ⌝ }
 {
     let answer = running::run_list(table, list, text);
     4294967296 * (answer.number() as u64) + (answer.value() as u64)

@@ -323,7 +323,7 @@ fn join(parts: &[&[Code]]) -> Vec<Code> {
 }
 
 /// Takes 1 from the number local and drops what is left.
-fn less_one(local: u16) -> [Code; 4] {
+pub fn less_one(local: u16) -> [Code; 4] {
     [mv(local), load(1), arith(SUB), pop()]
 }
 

@@ -43,6 +43,12 @@ impl Rng {
         from[self.below(from.len())]
     }
 
+    pub fn shuffle<T>(&mut self, items: &mut [T]) {
+        for end in (1..items.len()).rev() {
+            items.swap(end, self.below(end + 1));
+        }
+    }
+
     /// One of the items, each as often as its weight says; nothing if there is none.
     pub fn weighted<T: Copy>(&mut self, from: &[(usize, T)]) -> Option<T> {
         let total: usize = from.iter().map(|&(weight, _)| weight).sum();

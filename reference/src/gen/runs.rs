@@ -1,5 +1,6 @@
 //! The made runs: case `number` of a seed is a table, a call list and the length of a text buffer.
 
+use super::keys;
 use super::kit::{Id, Kit, ALL};
 use super::plan::{argument_row, asm::call, call_row, Plan, ProcPlan};
 use super::rng::Rng;
@@ -22,7 +23,7 @@ pub fn case(seed: u64, number: u64) -> Case {
     let mut rng = Rng::stream(seed, 2, number);
     let rng = &mut rng;
     let mut text_len = limit::TEXT_BYTES + if rng.chance(5) { rng.below(5_000) } else { 0 };
-    let (table, list) = match rng.below(100) {
+    let (table, list) = match rng.below(128) {
         0..=18 => random_run(rng),
         19..=25 => tangled_run(rng),
         26..=58 => {
@@ -42,17 +43,18 @@ pub fn case(seed: u64, number: u64) -> Case {
             let script = any_script(rng);
             kit_run(rng, &script)
         }
-        79..=88 => bad_list(rng),
-        89..=92 => {
+        79..=91 => bad_list(rng),
+        92..=96 => {
             text_len = rng.pick(&[0, 1, 100, 65_535, 65_535, 65_535, 4_096]);
             random_run(rng)
         }
-        93..=96 => {
+        97..=101 => {
             let (seed, number) = (rng.draw(), rng.below(1_000) as u64);
             (tables::table(seed, number), some_bytes(rng))
         }
-        97 => (tables::accepted(rng), Vec::new()),
-        _ => longest_list(rng),
+        102 => (tables::accepted(rng), Vec::new()),
+        103 | 104 => longest_list(rng),
+        _ => key_run(rng),
     };
     Case { table, list, text_len }
 }
@@ -88,9 +90,17 @@ impl Watch for Freezes {
     }
 }
 
-/// Writes calls as a list. Budgets are ample, just enough, one less, one more, spent at a Freeze, or small: what is
-/// enough is found by running each call on the machine that the calls before it left.
-fn list_of(rng: &mut Rng, program: &Program, calls: &[(u16, Vec<u64>)]) -> Vec<u8> {
+#[derive(Clone, Copy, PartialEq, Eq)]
+enum Budgets {
+    /// Ample, just enough, one less, one more, spent at a Freeze, or small.
+    Any,
+    /// Ample, just enough, or one more.
+    Enough,
+}
+
+/// Writes calls as a list. What budget is enough is found by running each call on the machine that the calls before it
+/// left.
+fn list_of(rng: &mut Rng, program: &Program, calls: &[(u16, Vec<u64>)], budgets: Budgets) -> Vec<u8> {
     let mut machine = Machine::new(program);
     let mut rows = Vec::new();
     for (procedure, arguments) in calls {
@@ -103,11 +113,12 @@ fn list_of(rng: &mut Rng, program: &Program, calls: &[(u16, Vec<u64>)]) -> Vec<u
             // The stopping instruction must come up with budget left.
             Outcome::Stopped { .. } => done + 1,
         };
-        let budget = match rng.below(22) {
+        let kinds = if budgets == Budgets::Enough { 17 } else { 22 };
+        let budget = match rng.below(kinds) {
             0..=10 => limit::BUDGET,
             11..=14 => needed,
-            15 | 16 => needed.saturating_sub(1),
-            17 | 18 => needed + 1,
+            15 | 16 => needed + 1,
+            17 | 18 => needed.saturating_sub(1),
             19 | 20 => freezes.some_budget(rng).unwrap_or(limit::BUDGET),
             _ => 1 + rng.below(12) as u32,
         };
@@ -157,7 +168,7 @@ fn run_of(rng: &mut Rng, table: Vec<u8>) -> (Vec<u8>, Vec<u8>) {
             calls.push((procedure, (0..params).map(|_| some_number(rng)).collect()));
         }
     }
-    let list = list_of(rng, &program, &calls);
+    let list = list_of(rng, &program, &calls, Budgets::Any);
     (table, list)
 }
 
@@ -188,7 +199,7 @@ fn kit_run(rng: &mut Rng, script: &Script) -> (Vec<u8>, Vec<u8>) {
     let program = crate::admit(&table).expect("kit procedures are accepted");
     let calls: Vec<(u16, Vec<u64>)> =
         script.iter().map(|(id, arguments)| (kit.number(*id), arguments.clone())).collect();
-    let list = list_of(rng, &program, &calls);
+    let list = list_of(rng, &program, &calls, Budgets::Any);
     (table, list)
 }
 
@@ -399,6 +410,48 @@ fn any_script(rng: &mut Rng) -> Script {
         calls.push((id, (0..params).map(|_| rng.below(4) as u64).collect()));
     }
     calls
+}
+
+/// The bank's and the user's records are published, moved, put into one another and taken apart.
+fn moving_script(rng: &mut Rng) -> Script {
+    let count = rng.within(3, 6);
+    let addresses = keys::addresses(rng, count);
+    let mut calls = Script::new();
+    for _ in 0..rng.within(6, 20) {
+        let (at, value) = (rng.pick(&addresses), some_number(rng));
+        calls.push(match rng.below(14) {
+            0..=2 => (Id::Mint, vec![at, value]),
+            3 => (Id::PutToken, vec![at]),
+            4 | 5 => (Id::PutNote, vec![at, value]),
+            6 | 7 => (Id::MakeCrate, vec![at, value]),
+            8 => (Id::BoxUp, vec![at]),
+            9 => (Id::Unbox, vec![at]),
+            10 => (Id::Uncrate, vec![at]),
+            11 => (Id::Shift, vec![at, rng.pick(&addresses)]),
+            12 => (Id::MoveStop, vec![at, rng.pick(&addresses), 0]),
+            _ => (Id::BoxStop, vec![at, 0]),
+        });
+    }
+    calls
+}
+
+// Runs whose store holds keys of several types.
+
+fn key_run(rng: &mut Rng) -> (Vec<u8>, Vec<u8>) {
+    let (depot, budgets) = match rng.below(20) {
+        0..=2 => (keys::full(rng), Budgets::Enough),
+        3 | 4 => (keys::emptied(rng), Budgets::Enough),
+        5..=10 => (keys::spread(rng), Budgets::Enough),
+        11..=16 => (keys::spread(rng), Budgets::Any),
+        _ => {
+            let script = moving_script(rng);
+            return kit_run(rng, &script);
+        }
+    };
+    let table = depot.plan.bytes();
+    let program = crate::admit(&table).expect("tables for keys are accepted");
+    let list = list_of(rng, &program, &depot.calls, budgets);
+    (table, list)
 }
 
 /// 256 rows: the longest good list.

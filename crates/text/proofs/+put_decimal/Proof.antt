@@ -6,7 +6,7 @@ use mathlib.Core.Path.{sym}
 use mathlib.Core.List.{[], _∷_}
 use Rattle.semantics.specs.Text.{decimal}
 use Rattle.text.proofs.Placing.{puts-more, puts-same}
-use Rattle.text.proofs.Decimal.{decimal-small, decimal-more}
+use Rattle.semantics.proofs.Decimal.{decimal-small, decimal-more}
 use borrow.Fn.Kinds.{In}
 use borrow.Fn.PlainCycle.{Measures, is, falls, and}
 use Rattle.text.proofs.put_decimal.Reads as put-decimal

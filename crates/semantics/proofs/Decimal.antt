@@ -8,7 +8,8 @@ use native.Mathlib.Decide.{decLt}
 use native.Mathlib.Omega.{arith}
 use borrow.Author.Tests.{lt-ltb, le-ltb}
 use lib.Dec.{ltb}
 use Rattle.semantics.specs.Text.{digits, decimal}
+use Rattle.semantics.specs.Told.{Decimal, one-digit, more-digits}
 
 -- the first number with more than k digits
 abbrev pub tens : ℕ → ℕ
@@ -53,3 +54,20 @@ pub decimal-more : (n : ℕ) → 10 ≤ n → n < 2 ^ 64 → decimal n ≡ decim
 unfolding decimal
 decimal-more n h l =
     digits-more 19 n [] h ∙ digits-append 19 (n / 10) [] ((48 + n % 10) ∷ []) ∙ ap (λ (xs : List ℕ). xs ++ ((48 + n % 10) ∷ [])) (sym (digits-enough 18 19 (n / 10) [] (omega arith) (omega arith)))
+
+-- The rule's decimal is the decimal: of a single digit
+said-small : (n : ℕ) → n < 10 → Decimal n (decimal n)
+said-small n s = rw (decimal-small n s) (one-digit s)
+
+-- of at most k + 1 digits
+said-within : (k n : ℕ) → n < tens (suc k) → n < 2 ^ 64 → Decimal n (decimal n)
+said-within zero n h l = said-small n (omega arith)
+said-within (suc k) n h l = go (decLt n 10) (said-within k (n / 10) (omega arith) (omega arith))
+  where
+    go : Dec (n < 10) → Decimal (n / 10) (decimal (n / 10)) → Decimal n (decimal n)
+    go (yes s) t = said-small n s
+    go (no s) t = rw (decimal-more n (omega arith) l) (more-digits {m = n} {n = n / 10} {d = n % 10} (omega arith) (omega arith) (omega arith) t)
+
+-- of 64 bits
+pub decimal-said : (n : ℕ) → n < 2 ^ 64 → Decimal n (decimal n)
+decimal-said n l = said-within 19 n (omega arith) l
