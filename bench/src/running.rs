@@ -5,6 +5,7 @@ use crate::proved;
 use reference::gen::runs::{self, Case};
 use reference::machine::{Machine, Watch};
 use reference::row::limit;
+use reference::text::call_lines;
 use reference::{refusal_lines, Refusal, RUN_PASSES, TABLE_PASSES};
 use std::collections::BTreeMap;
 use std::hint::black_box;
@@ -67,7 +68,7 @@ impl Tally {
 
 /// For each call of a text its stop, or 0 if it was done.
 pub fn ends(text: &[u8]) -> Vec<u32> {
-    text.split(|&byte| byte == b'\n').filter(|line| line.starts_with(b"call ")).map(stop_of).collect()
+    call_lines(text).map(stop_of).collect()
 }
 
 /// The stop of a call's line, or 0.

@@ -4,6 +4,7 @@ use reference::gen::{runs, tables};
 use reference::orders::StoreCounts;
 use reference::program::Program;
 use reference::row::{kind, op, read_rows};
+use reference::text::call_lines;
 use reference::{refusal_lines, Refusal, RUN_PASSES, TABLE_PASSES};
 use std::collections::BTreeMap;
 use std::io::Write;
@@ -155,8 +156,7 @@ fn run_lines(seed: u64, count: u64) -> String {
         match reference::run_with_store(&case.table, &case.list, case.text_len) {
             Ok((text, store)) => {
                 through += 1;
-                let lines = text.split(|&byte| byte == b'\n').filter(|line| line.starts_with(b"call "));
-                lines.for_each(|line| *calls.entry(stop_of(line)).or_default() += 1);
+                call_lines(&text).for_each(|line| *calls.entry(stop_of(line)).or_default() += 1);
                 stores.add(&store);
             }
             Err((number, _)) => *refusals.entry(number).or_default() += 1,

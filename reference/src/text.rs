@@ -45,6 +45,11 @@ fn write_fields(text: &mut Vec<u8>, machine: &Machine, (of, fields): (u8, &[u64]
     }
 }
 
+/// The lines of calls in a text, without their ends.
+pub fn call_lines(text: &[u8]) -> impl Iterator<Item = &[u8]> {
+    text.split(|&byte| byte == b'\n').filter(|line| line.starts_with(b"call "))
+}
+
 fn put(text: &mut Vec<u8>, words: std::fmt::Arguments) {
     text.write_fmt(words).expect("writing to memory does not fail");
 }

@@ -1,7 +1,7 @@
 -- The machine's text is the rules' text.
 use Prim.Native.Nat.{ℕ, zero, suc, _+_, _-_, _≤_}
 use mathlib.Core.Path.{_≡_, refl, ap, sym, _∙_}
-use mathlib.Core.Bool.{Bool, true, false, cond}
+use mathlib.Core.Bool.{Bool, true, false}
 use mathlib.Core.List.{List, [], _∷_, _++_, map, append-assoc}
 use mathlib.Core.Option.{Option, none, some}
 use mathlib.Core.Logic.{_⊎_, inl, inr, ⊎-elim}
@@ -76,12 +76,12 @@ module _ {R D : List ℕ} {rooms : List (Option MRoom)} {rs : List Cell} (h : Sh
 insert-shows : {R : List ℕ} (y a s r : ℕ) → nth R s ≡ some r → {ms : List MEntry} {es : List Entry} → ShowsStore R ms es → ShowsStore R (insertBy mentryBefore (mentry y a s r) ms) (insertBy entryBefore (entry y a s) es)
 unfolding insertBy
 insert-shows y a s r e no-entry = and-entry e no-entry
-insert-shows {R} y a s r e (and-entry {y = y′} {a = a′} {s = s′} {r = r′} {ms} {es} e′ q) = go (keyBefore y a y′ a′) (insert-shows y a s r e q)
+insert-shows {R} y a s r e (and-entry {y = y′} {a = a′} {s = s′} {r = r′} {ms} {es} e′ q) = go (keyBefore y a y′ a′) refl (insert-shows y a s r e q)
   where
-    go : (b : Bool) → ShowsStore R (insertBy mentryBefore (mentry y a s r) ms) (insertBy entryBefore (entry y a s) es)
-        → ShowsStore R (cond b (mentry y a s r ∷ mentry y′ a′ s′ r′ ∷ ms) (mentry y′ a′ s′ r′ ∷ insertBy mentryBefore (mentry y a s r) ms)) (cond b (entry y a s ∷ entry y′ a′ s′ ∷ es) (entry y′ a′ s′ ∷ insertBy entryBefore (entry y a s) es))
-    go true i = and-entry e (and-entry e′ q)
-    go false i = and-entry e′ i
+    go : (b : Bool) → keyBefore y a y′ a′ ≡ b → ShowsStore R (insertBy mentryBefore (mentry y a s r) ms) (insertBy entryBefore (entry y a s) es)
+        → ShowsStore R (insertBy mentryBefore (mentry y a s r) (mentry y′ a′ s′ r′ ∷ ms)) (insertBy entryBefore (entry y a s) (entry y′ a′ s′ ∷ es))
+    go true b i = rw b (and-entry e (and-entry e′ q))
+    go false b i = rw b (and-entry e′ i)
 
 sort-shows : {R : List ℕ} {ms : List MEntry} {es : List Entry} → ShowsStore R ms es → ShowsStore R (sortBy mentryBefore ms) (sortBy entryBefore es)
 unfolding sortBy
