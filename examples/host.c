@@ -85,6 +85,19 @@ static void run_credits(void)
     expect_run("budget 0", n, k, YITHREL_MIN_TEXT, 16, 0, "");
 }
 
+/* Kilos taken out of a credit of 500: 39 says that there are not so many, and what the stopped call took is there again; 32 that a sum is too large. */
+static void run_till(void)
+{
+    static const char taken[] = "call 0 done\ncall 1 stop 39 row 18\ncall 2 done\ncall 3 stop 39 row 18\nstore 0 7 0\n";
+    static const char added[] = "call 0 done\ncall 1 stop 39 row 18\ncall 2 stop 32 row 32\ncall 3 done\nstore 0 7 499\n";
+    size_t n = load("examples/till.bin");
+    size_t k = load_into(list, sizeof list, "examples/till-calls.bin");
+    expect_run("300 and 201 of 500; 500; 1 of 0", n, k, YITHREL_MIN_TEXT, 0, sizeof taken - 1, taken);
+    list[6 * 16 + 2] = 2;
+    memset(list + 8 * 16 + 8, 0xff, 8);
+    expect_run("2^64 - 1 more", n, k, YITHREL_MIN_TEXT, 0, sizeof added - 1, added);
+}
+
 int main(void)
 {
     size_t n = load("examples/credit.bin");
@@ -108,5 +121,6 @@ int main(void)
     expect("17 modules", table, 17 * 16, 3, 16);
     expect("2,049 rows", table, 2049 * 16, 1, 0);
     run_credits();
+    run_till();
     return failures != 0;
 }

@@ -78,8 +78,8 @@ uint64_t yithrel_judge(const uint8_t *table, size_t table_len);
  * (TYPE).
  *
  *   31 budget spent              34 no such key                  37 a 129th live record
- *   32 sum or difference         35 reference to what is gone    38 a 65th store entry
- *   33 key taken                 36 a 17th frame
+ *   32 sum above 64 bits         35 reference to what is gone    38 a 65th store entry
+ *   33 key taken                 36 a 17th frame                 39 difference below zero
  *
  * Nothing may write table or list while the call runs, and the buffers lent to one call may not overlap.
  *

@@ -1,22 +1,25 @@
-//! The judge of bytecode tables and the stack machine of documents 01 and 02 (papers 1 to 3), a second time: to
+//! The judge of bytecode tables and the stack machine of documents 01 and 02 (papers 1 to 4), a second time: to
 //! compare the other implementation with; and a generator of inputs for both.
 
+pub mod arith;
 pub mod gen;
 pub mod list;
 pub mod machine;
 mod names;
 mod operands;
 pub mod orders;
+pub mod overdrawn;
 pub mod program;
 pub mod row;
 mod shape;
+pub mod stop;
 pub mod text;
 pub mod walks;
 
 pub use list::check_list;
 
 use list::ListCall;
-use machine::{Entry, Machine};
+use machine::{Entry, Machine, Watch};
 use program::Program;
 use std::collections::BTreeMap;
 
@@ -80,19 +83,26 @@ pub fn run(table: &[u8], list: &[u8], text_len: usize) -> Result<Vec<u8>, Refusa
 
 /// The same, with the store's entries after the last call.
 pub fn run_with_store(table: &[u8], list: &[u8], text_len: usize) -> Result<(Vec<u8>, Vec<Entry>), Refusal> {
+    let (program, calls) = admit_run(table, list, text_len)?;
+    Ok(run_calls(&program, &calls, &mut ()))
+}
+
+/// Judges all that a run is given: the program and the calls if nothing is refused.
+pub fn admit_run(table: &[u8], list: &[u8], text_len: usize) -> Result<(Program, Vec<ListCall>), Refusal> {
     let program = admit(table)?;
     let calls = check_list(&program, list)?;
     if text_len < row::limit::TEXT_BYTES {
         return Err((17, 0));
     }
-    Ok(run_calls(&program, &calls))
+    Ok((program, calls))
 }
 
-fn run_calls(program: &Program, calls: &[ListCall]) -> (Vec<u8>, Vec<Entry>) {
+/// The text of the calls, with the store's entries after the last one.
+pub fn run_calls(program: &Program, calls: &[ListCall], watch: &mut impl Watch) -> (Vec<u8>, Vec<Entry>) {
     let mut machine = Machine::new(program);
     let mut text = Vec::new();
     for (number, call) in calls.iter().enumerate() {
-        let (outcome, _) = machine.call(call.procedure, &call.arguments, call.budget);
+        let (outcome, _) = machine.call_watched(call.procedure, &call.arguments, call.budget, watch);
         text::write_call(&mut text, number, &outcome);
     }
     text::write_store(&mut text, &machine);

@@ -1,7 +1,9 @@
 //! The stack machine. It runs accepted programs only; its state is changed in place.
 
-use crate::program::{Arith, Instr, Program, Sort};
+use crate::arith::{Answer, Arith};
+use crate::program::{Instr, Program, Sort};
 use crate::row::limit;
+use crate::stop::Stop;
 
 /// Why an accepted program cannot meet the case.
 const JUDGED: &str = "the operands pass accepted this instruction";
@@ -46,18 +48,6 @@ pub enum Reference {
         of: u8,
         record: Identity,
     },
-}
-
-#[derive(Clone, Copy, Debug, PartialEq, Eq)]
-pub enum Stop {
-    Budget = 31,
-    Arithmetic = 32,
-    KeyTaken = 33,
-    NoSuchKey = 34,
-    Stale = 35,
-    Frames = 36,
-    Records = 37,
-    Entries = 38,
 }
 
 #[derive(Clone, Debug, PartialEq, Eq)]
@@ -115,9 +105,15 @@ pub struct Machine<'p> {
     entries_made: u64,
 }
 
-/// Is shown the machine whenever an instruction has come up and the budget allows it.
+/// Is shown the machine whenever an instruction has come up, also where the call then stops.
 pub trait Watch {
     fn comes_up(&mut self, machine: &Machine);
+
+    /// What an Op gives. Only wrong readings, which are run to compare their texts, say otherwise.
+    #[inline]
+    fn answer(&self, arith: Arith, first: u64, second: u64) -> Answer {
+        arith.of(first, second)
+    }
 }
 
 /// Watches nothing.
@@ -163,11 +159,11 @@ impl<'p> Machine<'p> {
         self.enter(procedure as u8);
         let mut done = 0;
         loop {
+            watch.comes_up(self);
             let stop = if done == budget {
                 Stop::Budget
             } else {
-                watch.comes_up(self);
-                match self.step() {
+                match self.step(watch) {
                     Ok(Step::On) => {
                         done += 1;
                         continue;
@@ -238,7 +234,7 @@ impl<'p> Machine<'p> {
 
     /// Inlined always: the loop around it is compiled once for each `Watch`.
     #[inline(always)]
-    fn step(&mut self) -> Result<Step, Stop> {
+    fn step(&mut self, watch: &impl Watch) -> Result<Step, Stop> {
         let frame = self.frames.last_mut().expect("a call is running");
         let instr = self.program.code[frame.next];
         match instr {
@@ -259,7 +255,7 @@ impl<'p> Machine<'p> {
                 self.enter(callee);
             }
             _ => {
-                self.work(instr)?;
+                self.work(instr, watch)?;
                 self.go_on();
             }
         }
@@ -278,7 +274,7 @@ impl<'p> Machine<'p> {
 
     /// An instruction after which the next row comes up.
     #[inline(always)]
-    fn work(&mut self, instr: Instr) -> Result<(), Stop> {
+    fn work(&mut self, instr: Instr, watch: &impl Watch) -> Result<(), Stop> {
         match instr {
             Instr::Pop => {
                 self.pop();
@@ -321,7 +317,7 @@ impl<'p> Machine<'p> {
                 let exists = self.pop_key(of).is_ok();
                 self.operands.push(Value::Number(u64::from(exists)));
             }
-            Instr::Op(arith) => self.operate(arith)?,
+            Instr::Op(arith) => self.operate(arith, watch)?,
             Instr::Freeze => match self.operands.last_mut() {
                 Some(Value::Ref(_, access)) => *access = Access::ReadOnly,
                 _ => unreachable!("{JUDGED}"),
@@ -491,15 +487,10 @@ impl<'p> Machine<'p> {
         Ok(())
     }
 
-    fn operate(&mut self, arith: Arith) -> Result<(), Stop> {
+    fn operate(&mut self, arith: Arith, watch: &impl Watch) -> Result<(), Stop> {
         let second = self.pop_number();
         let first = self.pop_number();
-        let number = match arith {
-            Arith::Add => first.checked_add(second).ok_or(Stop::Arithmetic)?,
-            Arith::Subtract => first.checked_sub(second).ok_or(Stop::Arithmetic)?,
-            Arith::Equal => u64::from(first == second),
-            Arith::Less => u64::from(first < second),
-        };
+        let number = watch.answer(arith, first, second).or_stop()?;
         self.operands.push(Value::Number(number));
         Ok(())
     }
@@ -538,6 +529,14 @@ impl Machine<'_> {
     /// The instruction that comes up in the running frame.
     pub fn upcoming(&self) -> Instr {
         self.program.code[self.frame().next]
+    }
+
+    /// The Op that comes up, if it is one, with its two numbers.
+    pub fn upcoming_op(&self) -> Option<(Arith, u64, u64)> {
+        match (self.upcoming(), &self.operands[..]) {
+            (Instr::Op(arith), [.., Value::Number(first), Value::Number(second)]) => Some((arith, *first, *second)),
+            _ => None,
+        }
     }
 
     /// Number of the frame's procedure.

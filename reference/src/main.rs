@@ -2,8 +2,10 @@
 
 use reference::gen::{runs, tables};
 use reference::orders::StoreCounts;
+use reference::overdrawn::OverdrawnCounts;
 use reference::program::Program;
 use reference::row::{kind, op, read_rows};
+use reference::stop::STOPS;
 use reference::text::call_lines;
 use reference::{refusal_lines, Refusal, RUN_PASSES, TABLE_PASSES};
 use std::collections::BTreeMap;
@@ -115,8 +117,8 @@ fn made_runs(seed: u64, count: u64, dir: &str) -> Result<(), String> {
     write(dir, "stdout", &expected)
 }
 
-/// How often each verdict comes among made tables, and each refusal and call's end among made runs; and what stores
-/// these leave.
+/// How often each verdict comes among made tables, and each refusal and call's end among made runs; what stores these
+/// leave, and what overdrawn calls they have.
 fn histogram(seed: u64, count: u64) -> Result<(), String> {
     print(format!("{count} tables\n{}{count} runs\n{}", table_lines(seed, count), run_lines(seed, count)).as_bytes())
 }
@@ -150,14 +152,17 @@ fn run_lines(seed: u64, count: u64) -> String {
     let mut refusals: BTreeMap<u32, u64> = BTreeMap::new();
     let mut calls: BTreeMap<Option<u32>, u64> = BTreeMap::new();
     let mut stores = StoreCounts::default();
+    let mut overdrawn = OverdrawnCounts::default();
     let mut through = 0;
     for number in 0..count {
         let case = runs::case(seed, number);
-        match reference::run_with_store(&case.table, &case.list, case.text_len) {
-            Ok((text, store)) => {
+        match reference::admit_run(&case.table, &case.list, case.text_len) {
+            Ok((program, list)) => {
+                let (text, store) = reference::run_calls(&program, &list, &mut ());
                 through += 1;
                 call_lines(&text).for_each(|line| *calls.entry(stop_of(line)).or_default() += 1);
                 stores.add(&store);
+                overdrawn.add(&program, &list, &text);
             }
             Err((number, _)) => *refusals.entry(number).or_default() += 1,
         }
@@ -165,11 +170,20 @@ fn run_lines(seed: u64, count: u64) -> String {
     let mut lines = format!("  run through: {through}\n");
     lines.push_str(&refusal_lines(&TABLE_PASSES, &refusals));
     lines.push_str(&refusal_lines(&RUN_PASSES, &refusals));
-    for (stop, times) in calls {
-        let what = stop.map_or("done".to_string(), |number| format!("stopped {number}"));
-        lines.push_str(&format!("  calls {what}: {times}\n"));
-    }
+    lines.push_str(&call_end_lines(&calls));
+    lines.push_str(&overdrawn.lines());
     lines.push_str(&stores.lines());
+    lines
+}
+
+/// A line for each way in which a call can end; those that never came too.
+fn call_end_lines(calls: &BTreeMap<Option<u32>, u64>) -> String {
+    let times = |end: Option<u32>| calls.get(&end).unwrap_or(&0);
+    let mut lines = format!("  calls done: {}\n", times(None));
+    for (stop, name) in STOPS {
+        let number = stop.number();
+        lines.push_str(&format!("  calls stopped {number}, {name}: {}\n", times(Some(number))));
+    }
     lines
 }
 

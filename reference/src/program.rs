@@ -1,5 +1,6 @@
 //! A table decoded once, after the names pass: every number in it names something.
 
+use crate::arith::Arith;
 use crate::row::{kind, op, sort, Row};
 use crate::shape::Outline;
 use std::ops::Range;
@@ -75,14 +76,6 @@ impl Sort {
 }
 
 #[derive(Clone, Copy, Debug, PartialEq, Eq)]
-pub enum Arith {
-    Add,
-    Subtract,
-    Equal,
-    Less,
-}
-
-#[derive(Clone, Copy, Debug, PartialEq, Eq)]
 pub enum Instr {
     Pop,
     LoadConst(u64),
@@ -131,12 +124,7 @@ impl Instr {
             op::BRANCH => Instr::Branch(row.b),
             op::BRANCH_COND => Instr::BranchCond(row.b),
             op::FREEZE => Instr::Freeze,
-            _ => Instr::Op(match row.b {
-                0 => Arith::Add,
-                1 => Arith::Subtract,
-                2 => Arith::Equal,
-                _ => Arith::Less,
-            }),
+            _ => Instr::Op(Arith::new(row.b)),
         }
     }
 

@@ -14,7 +14,7 @@ pub fn write_call(text: &mut Vec<u8>, number: usize, outcome: &Outcome) {
             }
         }
         Outcome::Stopped { stop, row } => {
-            put(text, format_args!("call {number} stop {} row {row}", *stop as u32));
+            put(text, format_args!("call {number} stop {} row {row}", stop.number()));
         }
     }
     text.push(b'\n');

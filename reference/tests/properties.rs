@@ -1,5 +1,6 @@
 //! What holds of all made inputs.
 
+use reference::arith::Arith;
 use reference::gen::keys::{self, Depot};
 use reference::gen::plan::{argument_row, call_row, Plan};
 use reference::gen::rng::Rng;
@@ -8,8 +9,10 @@ use reference::gen::view_faults::{add_pair, Family, FAMILIES};
 use reference::gen::{faults, limits, runs, structured, tables, wild};
 use reference::machine::{Access, Entry, Machine, Outcome, Reference, Value, Watch};
 use reference::orders::{StoreCounts, OTHER_ORDERS};
+use reference::overdrawn::{OverdrawnCounts, WRONG_READINGS};
 use reference::program::{Instr, Procedure, Program, Sort};
 use reference::row::{write_rows, Row};
+use reference::stop::Stop;
 use reference::walks::{joint, places};
 use reference::TABLE_PASSES;
 use std::collections::{BTreeMap, BTreeSet};
@@ -221,7 +224,7 @@ fn watch_run(table: &[u8], list: &[u8], guard: &mut Guard, ends: &mut BTreeMap<u
         match outcome {
             Outcome::Done(_) => *ends.entry(0).or_default() += 1,
             Outcome::Stopped { stop, .. } => {
-                *ends.entry(stop as u32).or_default() += 1;
+                *ends.entry(stop.number()).or_default() += 1;
                 assert_eq!(store_text(&machine), store_text(&before));
                 assert_eq!(machine.live_records(), before.live_records());
             }
@@ -261,7 +264,7 @@ fn accepted_tables_run_safely() {
     assert!(guard.guarded_seen > 1_000, "{} guarded references seen", guard.guarded_seen);
     assert!(guard.shown_to_guests > 200, "{} read-only ones seen in guests", guard.shown_to_guests);
     assert!(guard.freezes > 1_000, "{} times Freeze", guard.freezes);
-    for end in [0, 31, 32, 33, 34, 35, 36, 37, 38] {
+    for end in [0].into_iter().chain(31..=39) {
         assert!(ends.contains_key(&end), "no call ends with {end}");
     }
 }
@@ -332,6 +335,88 @@ fn types_of(store: &[Entry]) -> usize {
     store.iter().map(|entry| entry.of).collect::<BTreeSet<u8>>().len()
 }
 
+/// Remembers the Op that has come up and where. One with another instruction after it was done.
+#[derive(Default)]
+struct LastOp {
+    upcoming: Option<(Arith, u64, u64)>,
+    frames: usize,
+    trusted: bool,
+}
+
+impl Watch for LastOp {
+    fn comes_up(&mut self, machine: &Machine) {
+        if let Some(done) = self.upcoming {
+            assert_eq!(rule(done), None, "{done:?} did not stop");
+        }
+        self.upcoming = machine.upcoming_op();
+        self.frames = machine.frame_count();
+        let inside = machine.program().procedure(machine.frame_procedure(self.frames - 1));
+        self.trusted = machine.program().is_trusted(inside.module);
+    }
+}
+
+/// The stop of an Op, in numbers wide enough for every sum and difference.
+fn rule((arith, first, second): (Arith, u64, u64)) -> Option<Stop> {
+    let (first, second) = (i128::from(first), i128::from(second));
+    match arith {
+        Arith::Add if first + second >= 1 << 64 => Some(Stop::TooLarge),
+        Arith::Subtract if first - second < 0 => Some(Stop::BelowZero),
+        _ => None,
+    }
+}
+
+/// 32 and 39 come where the rule says and only there, unless the budget is spent; 39 in frames of all depths and in both
+/// kinds of module, also in lists with 32.
+#[test]
+fn sums_and_differences_stop_by_the_rule() {
+    let mut depths = BTreeSet::new();
+    let mut modules: BTreeMap<bool, usize> = BTreeMap::new();
+    let (mut both, mut spent) = (0, 0);
+    for number in 0..4_000 {
+        let case = runs::case(33, number);
+        let Ok((program, calls)) = reference::admit_run(&case.table, &case.list, case.text_len) else { continue };
+        let mut machine = Machine::new(&program);
+        let mut stops = Vec::new();
+        for call in calls {
+            let mut last = LastOp::default();
+            let (outcome, _) = machine.call_watched(call.procedure, &call.arguments, call.budget, &mut last);
+            let by_rule = last.upcoming.and_then(rule);
+            let Outcome::Stopped { stop, .. } = outcome else { continue };
+            stops.push(stop);
+            match stop {
+                Stop::Budget => spent += usize::from(by_rule == Some(Stop::BelowZero)),
+                Stop::TooLarge | Stop::BelowZero => assert_eq!(by_rule, Some(stop)),
+                _ => assert_eq!(last.upcoming, None),
+            }
+            if stop == Stop::BelowZero {
+                depths.insert(last.frames);
+                *modules.entry(last.trusted).or_default() += 1;
+            }
+        }
+        both += usize::from(stops.contains(&Stop::TooLarge) && stops.contains(&Stop::BelowZero));
+    }
+    assert!((1..=16).all(|depth| depths.contains(&depth)), "{depths:?}");
+    assert!(modules.values().all(|&times| times >= 200) && modules.len() == 2, "{modules:?}");
+    assert!(both >= 80 && spent >= 80, "{both} lists with both stops, {spent} budgets spent just before 39");
+}
+
+#[test]
+fn made_runs_tell_readings_of_paper_4_apart() {
+    let mut counts = OverdrawnCounts::default();
+    for number in 0..2_500 {
+        let case = runs::case(34, number);
+        if let Ok((program, calls)) = reference::admit_run(&case.table, &case.list, case.text_len) {
+            let (text, _) = reference::run_calls(&program, &calls, &mut ());
+            counts.add(&program, &calls, &text);
+        }
+    }
+    assert!(counts.nested >= 100 && counts.restored >= 100 && counts.equal >= 500, "{counts:?}");
+    assert!(counts.before_budget >= 40, "{counts:?}");
+    for ((reading, _), count) in WRONG_READINGS.iter().zip(counts.otherwise) {
+        assert!(count >= 100, "{reading}: {counts:?}");
+    }
+}
+
 /// The calls with ample budgets.
 fn run_depot(depot: &Depot) -> (String, Vec<Entry>) {
     let mut list = Vec::new();
@@ -354,7 +439,7 @@ fn stores_are_filled_spread_and_emptied() {
         let homes: BTreeSet<usize> = store.iter().map(|entry| depot.plan.types[usize::from(entry.of)].module).collect();
         modules += usize::from(homes.len() >= 2);
         nested += usize::from(text.contains('('));
-        undone += usize::from(text.contains(" stop 32 "));
+        undone += usize::from(text.contains(" stop 39 "));
         let (text, store) = run_depot(&keys::full(&mut Rng::stream(29, 0, item)));
         assert!(store.len() == 64 && types_of(&store) >= 2, "item {item}: {} entries", store.len());
         assert!(text.contains(" stop 38 "), "item {item}");
@@ -379,7 +464,7 @@ fn budgets_at_and_below_what_is_needed() {
             if matches!(outcome, Outcome::Done(_)) {
                 assert_eq!(run(done), (outcome, done));
                 let (short, steps) = run(done - 1);
-                assert!(matches!(short, Outcome::Stopped { stop, .. } if stop as u32 == 31));
+                assert!(matches!(short, Outcome::Stopped { stop: Stop::Budget, .. }));
                 assert_eq!(steps, done - 1);
             }
         }
@@ -416,7 +501,7 @@ fn each_refusal_and_stop_comes_among_runs() {
             Err((number, _)) => *refusals.entry(number).or_insert(0) += 1,
         }
     }
-    for stop in 31..=38 {
+    for stop in 31..=39 {
         let times = texts.matches(&format!(" stop {stop} row ")).count();
         assert!(times >= 100, "{times} times stop {stop}");
     }

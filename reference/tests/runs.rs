@@ -224,7 +224,7 @@ fn stop_31_in_a_called_frame_and_before_others() {
     // Procedure 0: call 1 (row 2), ret. Procedure 1: 0 - 1 (rows 5 to 7), pop, ret.
     let table = [guest(), public(), call(1), ret(), private(), load(0), load(1), arith(SUB), pop(), ret()];
     let list = [call_of(0, 1), call_of(0, 2), call_of(0, 3), call_of(0, 4)];
-    let lines = ["call 0 stop 31 row 5", "call 1 stop 31 row 6", "call 2 stop 31 row 7", "call 3 stop 32 row 7"];
+    let lines = ["call 0 stop 31 row 5", "call 1 stop 31 row 6", "call 2 stop 31 row 7", "call 3 stop 39 row 7"];
     prints(&table, &list, &lines);
 }
 
@@ -245,9 +245,13 @@ fn stop_32() {
         &list,
         &["call 0 stop 32 row 7", "call 1 stop 32 row 7", "call 2 stop 32 row 7", "call 3 done 18446744073709551615"],
     );
+}
+
+#[test]
+fn stop_39() {
     let subtract = procedure(&[param(N), param(N), result(N), mv(0), mv(1), arith(SUB), ret()]);
     let list = calls(&[(0, &[0, 1]), (0, &[4, 5]), (0, &[5, 4])]);
-    prints(&subtract, &list, &["call 0 stop 32 row 7", "call 1 stop 32 row 7", "call 2 done 1"]);
+    prints(&subtract, &list, &["call 0 stop 39 row 7", "call 1 stop 39 row 7", "call 2 done 1"]);
 }
 
 /// A trusted module of coins (type 0: a guarded number and a number) and boxes (type 1: a coin and a number).
@@ -783,7 +787,7 @@ fn numbers_written_before_a_stop_are_restored() {
     ];
     // sub is instruction 12.
     let list = calls(&[(0, &[7, 50]), (4, &[7]), (1, &[7])]);
-    let lines = ["call 0 done", "call 1 stop 32 row 59", "call 2 done 50", "store 0 7 50 9"];
+    let lines = ["call 0 done", "call 1 stop 39 row 59", "call 2 done 50", "store 0 7 50 9"];
     prints(&with_coin(&code), &list, &lines);
 }
 

@@ -204,7 +204,7 @@ fn stopped_calls_leave_no_trace_in_the_order() {
         "call 0 done",
         "call 1 done",
         "call 2 done",
-        "call 3 stop 32 row 73",
+        "call 3 stop 39 row 73",
         "call 4 stop 34 row 46",
         "call 5 stop 31 row 42",
         "store 1 7 3",

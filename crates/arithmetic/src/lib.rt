@@ -2,10 +2,11 @@
 ghost use mathlib.Core.Path.{_≡_};
 ghost use Rattle.arithmetic.specs.Arithmetic.{calculation};
 
-// What an operation gives: a number; none, as it would have more than 64 bits or lie below 0; or there is no such operation.
+// What an operation gives: a number; none, as the sum would have more than 64 bits, or as the difference would lie below 0; or there is no such operation.
 pub enum Calculated {
     Value(u64),
-    OutOfRange,
+    TooLarge,
+    BelowZero,
     Unknown,
 }
 
@@ -13,7 +14,7 @@ fn add(x: u64, y: u64) -> Calculated
     ensures { λ r. ⌜ r ≡ calculation 0 x y ⌝ }
 {
     if 18446744073709551615 - x < y {
-        return Calculated::OutOfRange;
+        return Calculated::TooLarge;
     }
     Calculated::Value(x + y)
 }
@@ -21,8 +22,8 @@ fn add(x: u64, y: u64) -> Calculated
 fn subtract(x: u64, y: u64) -> Calculated
     ensures { λ r. ⌜ r ≡ calculation 1 x y ⌝ }
 {
-    if x < y {
-        return Calculated::OutOfRange;
+    if y > x {
+        return Calculated::BelowZero;
     }
     Calculated::Value(x - y)
 }

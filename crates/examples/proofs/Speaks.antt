@@ -8,12 +8,12 @@ use lib.Dec.{eqb}
 use lib.ListN.{take, drop}
 use native.Mathlib.Omega.{arith}
 use Rattle.reach.specs.Reach.{here as first}
-use Rattle.semantics.specs.Machine.{Value, num, obj, refer, toField, Cell, gone, here, Entry, entry, Frame, frame, State, state, next}
+use Rattle.semantics.specs.Machine.{Value, num, obj, refer, toField, Cell, gone, here, Entry, entry, Frame, frame, State, state, next, stopped}
 use Rattle.semantics.specs.History.{base, Event, moment}
 use Rattle.semantics.specs.Run.{historyOf}
 use Rattle.semantics.specs.Words.{operand, Exists}
 use Rattle.semantics.specs.Claim.{none-left, also}
-use Rattle.examples.specs.Speaks.{Speaks, StopsAfterChange, Happens, Makes, BreaksUp, Publishes, Withdraws, Changes, HoldsAboveGuest, Reads, tableGuest, listGuest, tableLabel, listLabel}
+use Rattle.examples.specs.Speaks.{Speaks, StopsAfterChange, Happens, Makes, BreaksUp, Publishes, Withdraws, Changes, HoldsAboveGuest, Reads, Calculates, tableGuest, listGuest, tableLabel, listLabel, tableTill, listTill}
 use Rattle.examples.proofs.Rules.{rules}
 
 -- whether a cell holds a record
@@ -196,5 +196,25 @@ reads = record {
       guarded = refl;
       there = record { fields = num 500 ∷ []; exists = refl; number = refl };
     },
+  );
+}
+
+-- The guest's second taking out of 500 kilos: 201 of 200; one kilo more than 2^64 - 1
+pub calculates : Calculates tableTill listTill
+unfolding rules tableTill listTill
+calculates = record {
+  accepted = refl;
+  good = refl;
+  overdrawn = (
+    28,
+    moment (state (frame 3 1 5 (num 201 ∷ num 200 ∷ []) (some (num 7) ∷ none ∷ []) ∷ frame 1 3 5 [] (none ∷ none ∷ none ∷ []) ∷ []) (credit 200) (entry 0 7 0 ∷ []) 4) 18 (stopped 39),
+    refl,
+    (refl, (200, 201, (refl, refl, ([], refl)), omega arith)),
+  );
+  overflown = (
+    92,
+    moment (state (frame 10 2 5 (num 1 ∷ num 18446744073709551615 ∷ []) (some (num 7) ∷ none ∷ []) ∷ []) (credit 18446744073709551615) (entry 0 7 0 ∷ []) 11) 32 (stopped 32),
+    refl,
+    (refl, (18446744073709551615, 1, (refl, refl, ([], refl)), omega arith)),
   );
 }

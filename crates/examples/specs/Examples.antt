@@ -8,7 +8,7 @@ use Rattle.table.specs.declared.Verdict.{Verdict}
 use Rattle.table.specs.declared.Verdict.the-variants.{Accepted, Refused}
 use Rattle.semantics.specs.Ascii.{ascii}
 use Rattle.semantics.specs.Run.{Ran, minText}
-use Rattle.examples.specs.Tables.{row, table, trusted, guest, type, number, guarded, public, private, parameter, local, code, pop, loadConst, mvLoc, cpLoc, stLoc, exists, moveFrom, unpack, borrowFld, readRef, pack, moveTo, callProcedure, ret, branch, branchCond, subtract, call, argument, rowsS, rowsT, rowsRound, with-row, without-row, times, rowsLent, rowsShown, rowsTakesTwo, rowsMarkedOnFallThrough, rowsMarkedOnJump, rowsOverwrittenOnce, rowsOverwrittenTwice, rowsOps, rowsLoop, rowsClosed, rowsWritten, rowsTwo, rowsKeys, rowsBare, rowsTypes, rowsNested, rowsGuest, callsGuest, rowsRefilled, rowsEmptied, rowsReturned, rowsStale, rowsDeep, rowsMany, rowsFull, result, borrowLoc, writeRef, freeze, rowsLabel, callsLabel, rowsSeen, rowsFrozenStale, rowsTakesOne}
+use Rattle.examples.specs.Tables.{row, table, trusted, guest, type, number, guarded, public, private, parameter, local, code, pop, loadConst, mvLoc, cpLoc, stLoc, exists, moveFrom, unpack, borrowFld, readRef, pack, moveTo, callProcedure, ret, branch, branchCond, subtract, call, argument, rowsS, rowsT, rowsRound, with-row, without-row, times, rowsLent, rowsShown, rowsTakesTwo, rowsMarkedOnFallThrough, rowsMarkedOnJump, rowsOverwrittenOnce, rowsOverwrittenTwice, rowsOps, rowsLoop, rowsClosed, rowsWritten, rowsTill, callsTill, rowsTwo, rowsKeys, rowsBare, rowsTypes, rowsNested, rowsGuest, callsGuest, rowsRefilled, rowsEmptied, rowsReturned, rowsStale, rowsDeep, rowsMany, rowsFull, result, borrowLoc, writeRef, freeze, rowsLabel, callsLabel, rowsSeen, rowsFrozenStale, rowsTakesOne}
 
 -- an example: the bytes of a table and its verdict; or a table, a call list and the length of a text buffer, with the answer and the text
 pub data Example : Type 0 where
@@ -210,7 +210,7 @@ judgingHanded =
     ∷ mvLoc 2 ∷ branchCond 5 ∷ cpLoc 0 ∷ borrowFld 0 0 ∷ stLoc 1 ∷ mvLoc 1 ∷ callProcedure 1 ∷ ret ∷ private ∷ parameter 4 0 ∷ ret ∷ [])) (Accepted 18)
     ∷ []
 
--- call lists: refusals 15 to 17, every opcode, and stops 31 to 35
+-- call lists: refusals 15 to 17, every opcode, and stops 31 to 35 and 39
 unfoldable pub runningCalls : List Example
 runningCalls =
     -- S run: budget 5 finishes, budget 4 stops 31 at row 9; twice with budget 100
@@ -221,14 +221,14 @@ runningCalls =
     ∷ prints (table rowsS) [] []
     -- 31 comes before 33
     ∷ prints (table rowsS) (table (call 0 100 ∷ argument 7 ∷ call 0 3 ∷ argument 7 ∷ [])) (line "call 0 done" ++ line "call 1 stop 31 row 8" ++ line "store 0 7 500")
-    -- the Ops; 32: a sum above 64 bits, a difference below 0
+    -- the Ops; 32: a sum above 64 bits; 39: a difference below zero
     ∷ prints (table rowsOps)
     (table (call 0 4 ∷ argument 18446744073709551615 ∷ argument 0 ∷ call 0 4 ∷ argument 18446744073709551615 ∷ argument 1
     ∷ call 1 4 ∷ argument 5 ∷ argument 5 ∷ call 1 4 ∷ argument 5 ∷ argument 6
     ∷ call 2 4 ∷ argument 4 ∷ argument 4 ∷ call 2 4 ∷ argument 4 ∷ argument 5
     ∷ call 3 4 ∷ argument 3 ∷ argument 4 ∷ call 3 4 ∷ argument 4 ∷ argument 4 ∷ call 3 4 ∷ argument 4 ∷ argument 3 ∷ []))
     (line "call 0 done 18446744073709551615" ++ line "call 1 stop 32 row 7"
-    ++ line "call 2 done 0" ++ line "call 3 stop 32 row 15"
+    ++ line "call 2 done 0" ++ line "call 3 stop 39 row 15"
     ++ line "call 4 done 1" ++ line "call 5 done 0"
     ++ line "call 6 done 1" ++ line "call 7 done 0" ++ line "call 8 done 0")
     -- a loop of 50 instructions, with a budget of 50 and of 49
@@ -237,11 +237,16 @@ runningCalls =
     ∷ prints (table rowsClosed) (table (call 1 100 ∷ argument 7 ∷ call 0 100 ∷ argument 7 ∷ call 1 100 ∷ argument 7 ∷ call 1 100 ∷ argument 7 ∷ []))
     (line "call 0 done 0" ++ line "call 1 done" ++ line "call 2 done 500" ++ line "call 3 done 0")
     -- published, then 0 less 1: the store is empty again
-    ∷ prints (table (take 9 rowsS ++ (loadConst 0 ∷ loadConst 1 ∷ subtract ∷ pop ∷ ret ∷ []))) (table (call 0 100 ∷ argument 7 ∷ [])) (line "call 0 stop 32 row 11")
+    ∷ prints (table (take 9 rowsS ++ (loadConst 0 ∷ loadConst 1 ∷ subtract ∷ pop ∷ ret ∷ []))) (table (call 0 100 ∷ argument 7 ∷ [])) (line "call 0 stop 39 row 11")
     -- call 2 writes 200 and stops: the kilos are 60 again; 34
     ∷ prints (table rowsWritten)
     (table (call 0 100 ∷ argument 7 ∷ call 1 100 ∷ argument 7 ∷ argument 60 ∷ call 1 100 ∷ argument 7 ∷ argument 200 ∷ call 2 100 ∷ argument 7 ∷ call 2 100 ∷ argument 8 ∷ []))
-    (line "call 0 done" ++ line "call 1 done 40" ++ line "call 2 stop 32 row 21" ++ line "call 3 done 60" ++ line "call 4 stop 34 row 27" ++ line "store 0 7 60")
+    (line "call 0 done" ++ line "call 1 done 40" ++ line "call 2 stop 39 row 21" ++ line "call 3 done 60" ++ line "call 4 stop 34 row 27" ++ line "store 0 7 60")
+    -- The till: 39 in a call of a guest's call, and the first taking is undone; all that there is; 0 less 1, and 31 before 39; 0 less 0; 32
+    ∷ prints (table rowsTill) (table callsTill)
+    (line "call 0 done" ++ line "call 1 stop 39 row 18" ++ line "call 2 done"
+    ++ line "call 3 stop 39 row 18" ++ line "call 4 stop 39 row 18" ++ line "call 5 stop 31 row 18" ++ line "call 6 done"
+    ++ line "call 7 done" ++ line "call 8 stop 32 row 32" ++ line "store 0 7 18446744073709551615")
     -- the second of two credits is written
     ∷ prints (table rowsTwo) (table (call 0 100 ∷ [])) (line "call 0 done" ++ line "store 0 7 1" ++ line "store 0 8 3")
     -- nested records

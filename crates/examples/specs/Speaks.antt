@@ -13,12 +13,14 @@ use Rattle.table.specs.Index.{indexOf}
 use Rattle.judging.specs.Judging.{judgeOf}
 use Rattle.reach.specs.Reach.{Mem}
 use Rattle.semantics.specs.Machine.{toField, Value, num, refer, Cell, Entry, Frame, frame, State, state, next, finished, stopped, stuck}
+use Rattle.semantics.specs.Limits.{tooLarge, belowZero}
 use Rattle.semantics.specs.Calls.{listOf}
 use Rattle.semantics.specs.History.{Base, base, Event, moment, ended}
 use Rattle.semantics.specs.Run.{historyOf}
 use Rattle.semantics.specs.Words.{guest, guardedField, GuardedReference, Holds, Exists, NumberIn, IsEntry}
+use Rattle.semantics.specs.Stops.{Overflows, Overdraws}
 use Rattle.semantics.specs.Claim.{All, Restored}
-use Rattle.examples.specs.Tables.{table, rowsGuest, callsGuest, rowsLabel, callsLabel}
+use Rattle.examples.specs.Tables.{table, rowsGuest, callsGuest, rowsLabel, callsLabel, rowsTill, callsTill}
 
 -- The words of demand 3 that ask about a table, at the table t: a guest's frame or not, a guarded field, a writable reference to one, what a stop restores
 abbrev pub OfGuest : List ℕ → Frame → Bool → Type 0
@@ -90,6 +92,15 @@ pub record GuestReads (t : List ℕ) (e : Event) : Type 0 where
   pub guarded : guardedField t type field ≡ true
   pub there : NumberIn records record-of type field x
 
+-- A moment at which an instruction stops with k, and something holds of its row and its operands
+abbrev pub StopsWith : ℕ → (ℕ → List Value → Type 0) → Event → Type 0
+StopsWith k Q (moment (state (frame id p i ops ls ∷ fs) rs st n) row (stopped k′)) = (k′ ≡ k) × Q row ops
+StopsWith k Q (moment (state (frame id p i ops ls ∷ fs) rs st n) row (next s)) = ⊥
+StopsWith k Q (moment (state (frame id p i ops ls ∷ fs) rs st n) row (finished vs s)) = ⊥
+StopsWith k Q (moment (state (frame id p i ops ls ∷ fs) rs st n) row stuck) = ⊥
+StopsWith k Q (moment (state [] rs st n) row o) = ⊥
+StopsWith k Q (ended before s row o after) = ⊥
+
 -- any moment of a call, not its end
 abbrev pub IsMoment : Event → Type 0
 IsMoment (moment s row o) = Unit {0}
@@ -144,6 +155,13 @@ module _ (t l : List ℕ) where
     pub good : listOf t (indexOf t) l ≡ Accepted (rowCount l)
     pub read : Happens (GuestReads t)
 
+  -- the same, and a difference is below zero, and a sum too large
+  pub record Calculates : Type 0 where
+    pub accepted : judgeOf t ≡ Accepted (rowCount t)
+    pub good : listOf t (indexOf t) l ≡ Accepted (rowCount l)
+    pub overdrawn : Happens (StopsWith belowZero (Overdraws t))
+    pub overflown : Happens (StopsWith tooLarge (Overflows t))
+
 -- A table and a list: a guest lets a credit be issued, written and published, and then lets it be withdrawn twice, at which it stops
 unfoldable pub tableGuest : List ℕ
 tableGuest = table rowsGuest
@@ -157,3 +175,10 @@ tableLabel = table rowsLabel
 
 unfoldable pub listLabel : List ℕ
 listLabel = table callsLabel
+
+-- A table and a list: more kilos are taken out of a credit than are in it, and more put in than a number holds
+unfoldable pub tableTill : List ℕ
+tableTill = table rowsTill
+
+unfoldable pub listTill : List ℕ
+listTill = table callsTill

@@ -251,6 +251,32 @@ rowsWritten =
     ∷ public ∷ parameter 0 0 ∷ result 0 0
     ∷ mvLoc 0 ∷ borrowGlobal 0 ∷ borrowFld 0 0 ∷ readRef ∷ ret ∷ [])
 
+-- The till. S; procedure 1 takes kilos out of the credit of an address (the difference is row 18), procedure 2 puts kilos in (the sum is row 32); procedure
+-- 3, a guest's, takes twice out of one credit
+unfoldable pub rowsTill : List (List ℕ)
+rowsTill =
+    rowsS
+    ++ (public ∷ parameter 0 0 ∷ parameter 0 0
+    ∷ cpLoc 0 ∷ borrowGlobal 0 ∷ borrowFld 0 0 ∷ readRef ∷ mvLoc 1 ∷ subtract
+    ∷ mvLoc 0 ∷ borrowGlobal 0 ∷ borrowFld 0 0 ∷ writeRef ∷ ret
+    ∷ public ∷ parameter 0 0 ∷ parameter 0 0
+    ∷ cpLoc 0 ∷ borrowGlobal 0 ∷ borrowFld 0 0 ∷ readRef ∷ mvLoc 1 ∷ add
+    ∷ mvLoc 0 ∷ borrowGlobal 0 ∷ borrowFld 0 0 ∷ writeRef ∷ ret
+    ∷ guest ∷ public ∷ parameter 0 0 ∷ parameter 0 0 ∷ parameter 0 0
+    ∷ cpLoc 0 ∷ mvLoc 1 ∷ callProcedure 1 ∷ mvLoc 0 ∷ mvLoc 2 ∷ callProcedure 1 ∷ ret ∷ [])
+
+-- A credit of 500 under 7. 300 and 201 are too much together; all 500; then 1 is too much, with a budget of 100, 6 and 5, and 0 is not; 2^64 - 1 go in, and
+-- then 1 is too much
+unfoldable pub callsTill : List (List ℕ)
+callsTill =
+    call 0 100 ∷ argument 7
+    ∷ call 3 100 ∷ argument 7 ∷ argument 300 ∷ argument 201
+    ∷ call 1 100 ∷ argument 7 ∷ argument 500
+    ∷ call 1 100 ∷ argument 7 ∷ argument 1 ∷ call 1 6 ∷ argument 7 ∷ argument 1 ∷ call 1 5 ∷ argument 7 ∷ argument 1
+    ∷ call 1 100 ∷ argument 7 ∷ argument 0
+    ∷ call 2 100 ∷ argument 7 ∷ argument 18446744073709551615
+    ∷ call 2 100 ∷ argument 7 ∷ argument 1 ∷ []
+
 -- two credits are published, of 1 and 2 kilos under 7 and 8; then 3 is written to the second
 unfoldable pub rowsTwo : List (List ℕ)
 rowsTwo =

@@ -4,9 +4,9 @@ use mathlib.Core.Path.{_≡_, refl}
 use mathlib.Core.List.{List}
 use native.Mathlib.Omega.{arith}
 use Rattle.arithmetic.specs.declared.Calculated.{Calculated}
-use Rattle.arithmetic.specs.declared.Calculated.the-variants.{Value, OutOfRange, Unknown}
+use Rattle.arithmetic.specs.declared.Calculated.the-variants.{Value, TooLarge, BelowZero, Unknown}
 use Rattle.arithmetic.specs.Arithmetic.{calculation}
-use Rattle.semantics.specs.Limits.{outOfRange}
+use Rattle.semantics.specs.Limits.{tooLarge, belowZero}
 use Rattle.state.specs.declared.Operand.{Operand}
 use Rattle.state.specs.declared.Operand.the-variants.{Empty, Number, Record, Refer}
 use Rattle.state.specs.declared.frames.State.{State}
@@ -32,7 +32,8 @@ module _ (cs : List Operand) (s : State) (st : Stands cs s) where
 
       given : (c : Calculated) → outcomeOf k (closed cs s c) ≡ gives c
       given (Value v) = settle-is cs s st 2 (Number v) room k
-      given OutOfRange = refl
+      given TooLarge = refl
+      given BelowZero = refl
       given Unknown = refl
 
       go : (u v : Operand) → outcomeOf k (closed cs s (operated b u v)) ≡ asNumber u (λ (x : ℕ). asNumber v λ (y : ℕ). gives (calculation b x y))
@@ -49,5 +50,6 @@ module _ (cs : List Operand) (s : State) (st : Stands cs s) where
     where
       shut : (c : Calculated) → Kept cs s (closed cs s c)
       shut (Value v) = settle-kept cs s st 2 (Number v) room
-      shut OutOfRange = ends-kept cs s outOfRange
+      shut TooLarge = ends-kept cs s tooLarge
+      shut BelowZero = ends-kept cs s belowZero
       shut Unknown = ends-kept cs s broken

@@ -3,9 +3,9 @@ use Prim.Native.Nat.{ℕ}
 use mathlib.Core.Bool.{cond}
 use mathlib.Core.List.{List}
 use Rattle.arithmetic.specs.declared.Calculated.{Calculated}
-use Rattle.arithmetic.specs.declared.Calculated.the-variants.{Value, OutOfRange, Unknown}
+use Rattle.arithmetic.specs.declared.Calculated.the-variants.{Value, TooLarge, BelowZero, Unknown}
 use Rattle.arithmetic.specs.Arithmetic.{calculation}
-use Rattle.semantics.specs.Limits.{outOfRange}
+use Rattle.semantics.specs.Limits.{tooLarge, belowZero}
 use Rattle.state.specs.declared.Operand.{Operand}
 use Rattle.state.specs.declared.Operand.the-variants.{Number}
 use Rattle.state.specs.declared.frames.State.{State}
@@ -20,7 +20,8 @@ withNumber cs s x k = cond (isNumber x) (k (numberOf x)) (ends cs s broken)
 -- what an operation gave is pushed, or is a stop
 abbrev pub closed : List Operand → State → Calculated → Turning
 closed cs s (Value v) = settled cs s 2 (Number v)
-closed cs s OutOfRange = ends cs s outOfRange
+closed cs s TooLarge = ends cs s tooLarge
+closed cs s BelowZero = ends cs s belowZero
 closed cs s Unknown = ends cs s broken
 
 -- what operation b gives of two operands, which are numbers

@@ -22,7 +22,8 @@ fn close(s: State, cells: &mut [u64], x: Calculated) -> State
 {
     match x {
         Calculated::Value(v) => settle(s, cells, 2, state::NUMBER, v),
-        Calculated::OutOfRange => s.stopped(stops::OUT_OF_RANGE),
+        Calculated::TooLarge => s.stopped(stops::TOO_LARGE),
+        Calculated::BelowZero => s.stopped(stops::BELOW_ZERO),
         Calculated::Unknown => s.stopped(stops::BROKEN),
     }
 }

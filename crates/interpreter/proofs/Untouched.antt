@@ -10,9 +10,9 @@ use borrow.Author.Tests.{le-leb, lt-leb, eq-eqb, ne-eqb}
 use lib.Dec.{eqb, ltb, leb}
 use lib.ListN.{getD, getElem? as nth}
 use Rattle.arithmetic.specs.declared.Calculated.{Calculated}
-use Rattle.arithmetic.specs.declared.Calculated.the-variants.{Value, OutOfRange, Unknown}
+use Rattle.arithmetic.specs.declared.Calculated.the-variants.{Value, TooLarge, BelowZero, Unknown}
 use Rattle.arithmetic.specs.Arithmetic.{truth}
-use Rattle.semantics.specs.Limits.{outOfRange, staleReference, noSuchKey, tooManyFrames}
+use Rattle.semantics.specs.Limits.{tooLarge, belowZero, staleReference, noSuchKey, tooManyFrames}
 use Rattle.state.specs.declared.Operand.{Operand}
 use Rattle.state.specs.declared.Operand.the-variants.{Empty, Number, Record, Refer}
 use Rattle.state.specs.declared.frames.State.{State}
@@ -148,5 +148,6 @@ module _ (cs : List Operand) (s : State) (st : Stands cs s) where
     where
       go : (x : Calculated) → Untouched cs s (closed cs s x)
       go (Value v) = settles 2 (Number v)
-      go OutOfRange = ending cs s outOfRange
+      go TooLarge = ending cs s tooLarge
+      go BelowZero = ending cs s belowZero
       go Unknown = ending cs s broken

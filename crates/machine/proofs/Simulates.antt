@@ -9,7 +9,7 @@ use borrow.Author.Tests.{ltb-true, ltb-false, lt-ltb, le-ltb}
 use lib.Dec.{eqb, ltb}
 use lib.ListN.{length, getD, set, take, drop, replicate, length-append, getElem? as nth}
 use Rattle.arithmetic.specs.declared.Calculated.{Calculated}
-use Rattle.arithmetic.specs.declared.Calculated.the-variants.{Value as Gives, OutOfRange, Unknown}
+use Rattle.arithmetic.specs.declared.Calculated.the-variants.{Value as Gives, TooLarge, BelowZero, Unknown}
 use Rattle.arithmetic.specs.Arithmetic.{calculation}
 use Rattle.semantics.specs.Machine as Rules
 use Rattle.semantics.specs.Machine.{Ref, Value, num, obj, refer, writable, Cell, gone, here, Entry, entry, Frame, frame, state, Outcome, next, stopped, stuck, content, localOf, liveCount, Target, aNumber, inCell, target, writeFrames, writeRecords}
@@ -394,7 +394,8 @@ module _ (R D : List ℕ) (b d kind others id p i : ℕ) (ops ls : List Operand)
     where
       go : (c : Calculated) → SameOutcome R D (calculates b d kind (length us) others id p i ops ls ms rooms (length rs) es n c) (calculated b d kind others us id p i rest os fs rs st n c)
       go (Gives x) = same-push (and number no-more)
-      go OutOfRange = stops
+      go TooLarge = stops
+      go BelowZero = stops
       go Unknown = never
 
   same-freeze : SameOutcome R D (machine 20) (ruled 20)

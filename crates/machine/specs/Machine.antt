@@ -6,9 +6,9 @@ use mathlib.Core.Option.{Option, none, some}
 use lib.Dec.{eqb, ltb}
 use lib.ListN.{length, set, take, drop, replicate, getElem? as nth}
 use Rattle.arithmetic.specs.declared.Calculated.{Calculated}
-use Rattle.arithmetic.specs.declared.Calculated.the-variants.{Value, OutOfRange, Unknown}
+use Rattle.arithmetic.specs.declared.Calculated.the-variants.{Value, TooLarge, BelowZero, Unknown}
 use Rattle.arithmetic.specs.Arithmetic.{calculation}
-use Rattle.semantics.specs.Limits.{maxFrames, maxRecords, maxEntries, outOfRange, keyTaken, noSuchKey, staleReference, tooManyFrames, tooManyRecords, tooManyEntries}
+use Rattle.semantics.specs.Limits.{maxFrames, maxRecords, maxEntries, tooLarge, belowZero, keyTaken, noSuchKey, staleReference, tooManyFrames, tooManyRecords, tooManyEntries}
 use Rattle.state.specs.declared.Reference.{Reference}
 use Rattle.state.specs.declared.Reference.the-variants.{Local, Field, Record as Whole}
 use Rattle.state.specs.declared.Operand.{Operand}
@@ -206,7 +206,8 @@ module _ (b d kind takes others s p at : ℕ) (ops ls : List Operand) (fs : List
   -- what an operation gives is pushed, or it stops
   abbrev pub calculates : Calculated → MOutcome
   calculates (Value x) = on (Number x ∷ [])
-  calculates OutOfRange = mstopped outOfRange
+  calculates TooLarge = mstopped tooLarge
+  calculates BelowZero = mstopped belowZero
   calculates Unknown = mbroken
 
   -- by opcode

@@ -22,7 +22,7 @@ use Rattle.locals.specs.Locals.{needsFull}
 use Rattle.acceptance.specs.Checked.{Unmarked}
 use Rattle.acceptance.specs.Judged.{localKinds}
 use Rattle.arithmetic.specs.declared.Calculated.{Calculated}
-use Rattle.arithmetic.specs.declared.Calculated.the-variants.{Value as Gives, OutOfRange, Unknown}
+use Rattle.arithmetic.specs.declared.Calculated.the-variants.{Value as Gives, TooLarge, BelowZero, Unknown}
 use Rattle.arithmetic.specs.Arithmetic.{calculation}
 use Rattle.arithmetic.proofs.Range.{four, word}
 use Rattle.semantics.specs.Machine.{Ref, toField, toRecord, Value, num, obj, refer, asKind, writable, Cell, gone, here, Entry, Frame, frame, State, state, Outcome, next, stopped, stuck, findKey, putField, liveCount, target, writeFrames, writeRecords}
@@ -430,7 +430,8 @@ module _ {t : List ℕ} {T W : List ℕ} {id p i : ℕ} {ops vs under : List Val
   calculated-ok : op ≡ 19 → (x y : ℕ) → vs ≡ num x ∷ num y ∷ [] → Word x → (c : Calculated) → calculation b x y ≡ c
       → OutcomeOk t (Did R) (calculated b (instructionIn t (indexOf t) p i .d) (localKind t (procedureIn (indexOf t) p) b) (localCount (procedureIn (indexOf t) b) - length vs) vs id p i under ls fs h st n c)
   calculated-ok e x y q w (Gives z) g = number-pushed e x y z q (word b x y w g)
-  calculated-ok e x y q w OutOfRange g = tt
+  calculated-ok e x y q w TooLarge g = tt
+  calculated-ok e x y q w BelowZero g = tt
   calculated-ok e x y q w Unknown g = omega (arith, four b x y .0 g, R .instr .calculates e)
 
   pub ok-op : Case 19

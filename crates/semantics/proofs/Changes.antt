@@ -48,7 +48,7 @@ free-go : (b : Bool) (t a id : ℕ) (st : List Entry) → cond b (some id) (find
 free-go true t a id st e ih = absurd (clash (cc))
 free-go false t a id st e ih = omega (arith, ih e)
 
-free : (t a : ℕ) (st : List Entry) → findKey st t a ≡ none → keyCount t a st ≡ 0
+pub free : (t a : ℕ) (st : List Entry) → findKey st t a ≡ none → keyCount t a st ≡ 0
 free t a [] e = refl
 free t a (entry t′ a′ id ∷ st) e = free-go (eqb t′ t && eqb a′ a) t a id st e (free t a st)
 

@@ -1,7 +1,7 @@
 -- What follows from the claim: of operands taken, frames, numbers, references, and what stands between the moments of a list of calls.
 use Prim.Native.Nat.{ℕ, zero, suc, _+_, _-_, _%_, _<_, _≤_}
 use mathlib.Core.Path.{_≡_, refl, ap, sym, subst, _∙_}
-use mathlib.Core.Bool.{Bool, true, false, cond, _&&_}
+use mathlib.Core.Bool.{Bool, true, false, cond}
 use mathlib.Core.List.{List, [], _∷_, _++_, map, List·Memᴰ·head, List·Memᴰ·tail, List·Memᴰ·cases-cons, List·Memᴰ·not-nil}
 use mathlib.Core.Logic.{_⊎_, inl, inr, ⊎-elim, _≢_}
 use mathlib.Core.Option.{Option, none, some}
@@ -15,7 +15,7 @@ use Rattle.table.specs.Rows.{rowAt}
 use Rattle.declarations.specs.Program.{number, numberRef, recordRef, referenceTo, localKind, localCount}
 use Rattle.semantics.specs.Limits.{budgetSpent}
 use Rattle.reach.specs.Reach.{Mem}
-use Rattle.semantics.specs.Machine.{Ref, toLocal, toField, toRecord, Value, valueKind, writable, num, obj, refer, putLocal, localOf, findKey, Cell, gone, here, Entry, entry, Frame, frame, State, state, Outcome, next, stopped, Target, aNumber, aRecord, stale, wrong, inCell, inLocal, numberIn, inField, target}
+use Rattle.semantics.specs.Machine.{Ref, toLocal, toField, toRecord, Value, valueKind, writable, num, obj, refer, putLocal, localOf, Cell, gone, here, Entry, Frame, frame, State, state, Outcome, next, stopped, Target, aNumber, aRecord, stale, wrong, inCell, inLocal, numberIn, inField, target}
 use Rattle.semantics.specs.Step.{pushedOn, startLocals, Taken, missing, took, alsoTaken, taken, effectAt, step}
 use Rattle.semantics.specs.Calls.{Call, call}
 use Rattle.semantics.specs.History.{Base, Event, moment, ended, rowUp, begin, afterwards}
@@ -23,7 +23,7 @@ use Rattle.semantics.specs.Words.{procedureCount, kindsIn, bodyOf, instr
 use Rattle.semantics.specs.Claim.{Sound, Rising, IsReference, Labelled, Typed, typed, Linked, first, under as at-call, Makes, local-made, field-made, nested-made, entry-made, frozen-made, Takes, Handed, goesOn, writes, calls, returns, Origin, SafeState, goes, Safe, safe}
 use Rattle.semantics.specs.Chain.{Moments, spent, steps, done, Chained, no-call, one-call}
 use Rattle.semantics.proofs.Changes.{clash}
-use Rattle.semantics.proofs.Sounds.{nth-set, head-of}
+use Rattle.semantics.proofs.Sounds.{nth-set, head-of, found-there}
 use Rattle.semantics.proofs.Sorts.{as-large}
 use Rattle.semantics.proofs.Handing.{taken-shape}
 
@@ -257,16 +257,6 @@ no-record (aRecord c vs) j e = no-record-in (nth vs j) e
 no-record stale j e = clash (cc)
 no-record wrong j e = clash (cc)
 
-found-there : (st : List Entry) (y a c : ℕ) → findKey st y a ≡ some c → IsEntry st y a c
-found-there [] y a c e = absurd (clash (cc))
-found-there (entry y′ a′ id ∷ st) y a c e = go (eqb y′ y) (eqb a′ a) refl refl e (found-there st y a c)
-  where
-    go : (b d : Bool) → eqb y′ y ≡ b → eqb a′ a ≡ d → cond (b && d) (some id) (findKey st y a) ≡ some c → (findKey st y a ≡ some c → IsEntry st y a c) → IsEntry (entry y′ a′ id ∷ st) y a c
-    go true true p q u ih = let z : id ≡ c = cc in let w : entry y a c ≡ entry y′ a′ id = cc (eqb-true y′ y p, eqb-true a′ a q, z) in List·Memᴰ·head w
-    go true false p q u ih = List·Memᴰ·tail (ih u)
-    go false true p q u ih = List·Memᴰ·tail (ih u)
-    go false false p q u ih = List·Memᴰ·tail (ih u)
-
 -- the step of a row over these operands lends a writable reference: BorrowLoc, BorrowGlobal, or BorrowFld through a writable one
 abbrev pub Lends : List ℕ → ℕ → List Value → Type 0
 Lends t row ops = (rowAt t row .a ≡ opBorrowLoc) ⊎ ((rowAt t row .a ≡ opBorrowGlobal) ⊎ ((rowAt t row .a ≡ opBorrowFld) × ((v : Value) × (under : List Value) × (ops ≡ v ∷ under) × (writable v ≡ true))))
@@ -385,7 +375,7 @@ module _ (t : List ℕ) (ix : Index) (row id p i : ℕ) (ops : List Value) (ls :
   -- a reference that any frame holds after a safe step some frame held before, or the step made it
   pub held-before : {fs′ : List Frame} {rs′ : List Cell} {st′ : List Entry} {n′ : ℕ} → Safe t ix (moment (state (frame id p i ops ls ∷ fs) rs st n) row (next (state fs′ rs′ st′ n′)))
       → (v : Value) → IsReference v → (f : Frame) → Mem f fs′ → Holds f v → HeldBy (frame id p i ops ls ∷ fs) v ⊎ Makes t row id p ops (frame id p i ops ls ∷ fs) rs st v
-  held-before (safe s (goes a b c d)) v r f m h = from-before v r b c (f, m, h)
+  held-before (safe s (goes u a b c d g)) v r f m h = from-before v r b c (f, m, h)
 
 -- the events of a list of calls
 module _ (t : List ℕ) (ix : Index) where

@@ -16,14 +16,18 @@ use Rattle.declarations.specs.Program.{procedureIn, instructionIn}
 use Rattle.judging.specs.Judging.{judgeOf}
 use Rattle.acceptance.specs.Judged.{Bytes, Judged}
 use Rattle.acceptance.proofs.Judged.{judged}
-use Rattle.semantics.specs.Machine.{toField, Value, refer, Cell, Entry, Frame, frame, State, state, Outcome, next, finished, stopped, stuck}
+use Rattle.arithmetic.specs.declared.Calculated.{Calculated}
+use Rattle.arithmetic.specs.declared.Calculated.the-variants.{Value as Gives, TooLarge, BelowZero, Unknown}
+use Rattle.arithmetic.specs.Arithmetic.{calculation}
+use Rattle.semantics.specs.Machine.{toField, Value, num, refer, Cell, Entry, Frame, frame, State, state, Outcome, next, finished, stopped, stuck}
 use Rattle.semantics.specs.Step.{instruction, step}
 use Rattle.semantics.specs.Calls.{Call, listOf, callsOf}
 use Rattle.semantics.specs.History.{Base, base, Event, moment, ended, bury, restored, afterwards, nothing}
 use Rattle.semantics.specs.Run.{historyOf}
 use Rattle.semantics.specs.Words.{moduleOf, operand, Exists, IsEntry}
 use Rattle.semantics.specs.Callable.{GoodCall}
-use Rattle.semantics.specs.Claim.{All, none-left, also, IsNumber, Owned, Sound, Ready, Kept, Proper, By, Freezes, SafeOutcome, goes as goes-on, returnsLast, stops as stops-there, Restored, finishes, restores, Between, Later, Safe, safe, ends as ends-there}
+use Rattle.semantics.specs.Claim.{All, none-left, also, IsNumber, Rising, Owned, Sound, Ready, Kept, Proper, By, Freezes, Calculates, Unhindered, StopsAt, SafeOutcome, goes as goes-on, returnsLast, stops as stops-there, Restored, finishes, restores, Between, Later, Safe, safe, ends as ends-there}
+use Rattle.semantics.specs.Stops.{Cause}
 use Rattle.semantics.specs.Chain.{Chained, Claimed}
 use Rattle.semantics.proofs.Changes.{clash, grows, Limited}
 use Rattle.semantics.proofs.Indexed.{moduleIn, declarerIn}
@@ -31,16 +35,17 @@ use Rattle.semantics.proofs.Sounds.{changed-ok, written-ok, fields-ok, 
 use Rattle.semantics.proofs.Typing.{CellOk, EntryOk}
 use Rattle.semantics.proofs.Frames.{FrameOk, Stack, runs, typeOf, Inv}
 use Rattle.semantics.proofs.Running.{Rest, OutcomeOk}
-use Rattle.semantics.proofs.Steps.{DidAt, runs-on, takes-there, writes-through, freeze-finds, kinds-found, freeze-runs}
+use Rattle.semantics.proofs.Steps.{DidAt, runs-on, takes-there, writes-through, freeze-finds, op-finds, kinds-found}
 use Rattle.semantics.proofs.Guests.{stack-kept}
 use Rattle.semantics.proofs.Owning.{nested, plain, reached, shaped, entries-typed}
 use Rattle.semantics.proofs.Worded.{types-are, procedures-are, type-is, procedure-is, declarer-is, module-is}
 use Rattle.semantics.proofs.Placed.{place-is, end-is, row-is, kind-is, owner-is, guests-are}
 use Rattle.semantics.proofs.Labels.{types-hold, links}
-use Rattle.semantics.proofs.Outcomes.{goes, ends}
+use Rattle.semantics.proofs.Outcomes.{goes, ends, stops}
+use Rattle.semantics.proofs.Stops.{calculation-comes, op-comes, stops-for}
 use Rattle.semantics.proofs.Callable.{good-calls}
 use Rattle.semantics.proofs.ReadOnly.{freezes}
-use Rattle.semantics.proofs.Invariant.{used, usedAt, Within, BaseOk, MomentOk, EndOk, EventOk, HandedAt, handed-at, outcome-ok, restored-ok, restored-length, buried-dead, chain-ok, nothing-ok}
+use Rattle.semantics.proofs.Invariant.{used, usedAt, Within, BaseOk, MomentOk, EndOk, EventOk, HandedAt, handed-at, outcome-ok, no-frame, restored-ok, restored-length, buried-dead, chain-ok, nothing-ok}
 use Rattle.semantics.proofs.Every.{chained}
 
 pub all-head : {B : Type 0} {Q : B → Type 0} {x : B} {l : List B} → All Q (x ∷ l) → Q x
@@ -149,16 +154,40 @@ module _ (t : List ℕ) (J : Judged t (indexOf t)) where
         let d = q ∙ ap (λ (o : List Value). step t (indexOf t) (state (frame id p i o ls ∷ fs) h st n)) (z .2) ∙ freezes t (indexOf t) id p i (z .1) ls fs h st n (z .0) a (z .3) in
         (z .0, z .1, z .2, cc (d), cc (d), cc (d))
 
+    -- Op pushes what its operation gives
+    calculated-by : (fs fs′ : List Frame) (h h′ : List Cell) (st st′ : List Entry) (n n′ : ℕ) → Rising n (frame id p i ops ls ∷ fs) → next (state fs′ h′ st′ n′) ≡ step t (indexOf t) (state (frame id p i ops ls ∷ fs) h st n)
+        → Calculates t (indexOf t) here-row id p i ops ls fs h st fs′ h′ st′
+    unfolding instruction
+    calculated-by fs fs′ h h′ st st′ n n′ r q e =
+        let z = takes-there t J f in
+        let o = op-finds t J f (ap (λ (r : Row). r .a) found ∙ e) in
+        go (o .0) (o .1) (o .2) (o .3) (calculation (rowAt t here-row .b) (o .0) (o .1)) refl (q ∙ op-comes t (indexOf t) here-row id p i ops ls fs h st n found (z .0) r (z .1 .0) (z .1 .1) (z .1 .2) e (o .3) _ refl)
+      where
+        go : (x y : ℕ) (under : List Value) → ops ≡ num y ∷ num x ∷ under → (c : Calculated) → calculation (rowAt t here-row .b) x y ≡ c → next (state fs′ h′ st′ n′) ≡ calculation-comes id p i ls fs h st n under c
+            → (x y z : ℕ) × (under : List Value) × (ops ≡ num y ∷ num x ∷ under) × (calculation (rowAt t here-row .b) x y ≡ Gives z) × (fs′ ≡ frame id p (i + 1) (num z ∷ under) ls ∷ fs) × (h′ ≡ h) × (st′ ≡ st)
+        go x y under s (Gives z) g w = (x, y, z, under, s, g, cc (w), cc (w), cc (w))
+        go x y under s TooLarge g w = absurd (clash (cc))
+        go x y under s BelowZero g w = absurd (clash (cc))
+        go x y under s Unknown g w = absurd (clash (cc))
+
+    -- a step that is done had no cause to stop
+    unhindered : (fs : List Frame) (h : List Cell) (st : List Entry) (n : ℕ) {z : State} → Rising n (frame id p i ops ls ∷ fs) → next z ≡ step t (indexOf t) (state (frame id p i ops ls ∷ fs) h st n) → Unhindered t (indexOf t) here-row ops (frame id p i ops ls ∷ fs) h st
+    unfolding instruction
+    unhindered fs h st n r e k c =
+        let z = takes-there t J f in
+        let d = e ∙ stops-for t (indexOf t) here-row id p i ops ls fs h st n found (z .0) r (z .1 .0) (z .1 .1) (z .1 .2) c in
+        clash (cc (d))
+
     -- what comes of it
-    outcome : {fs : List Frame} {h : List Cell} {st : List Entry} {n : ℕ} (o : Outcome) → Kept t (frame id p i ops ls) → Sound t (frame id p i ops ls ∷ fs) h st
+    outcome : {fs : List Frame} {h : List Cell} {st : List Entry} {n : ℕ} (o : Outcome) → Kept t (frame id p i ops ls) → Sound t (frame id p i ops ls ∷ fs) h st → Rising n (frame id p i ops ls ∷ fs)
         → OutcomeOk t (DidAt t (state (frame id p i ops ls ∷ fs) h st n)) o → HandedAt t J (state (frame id p i ops ls ∷ fs) h st n) o → o ≡ step t (indexOf t) (state (frame id p i ops ls ∷ fs) h st n) → SafeOutcome t (indexOf t) here-row id p i ops ls fs h st n o
     unfolding instruction
-    outcome {fs} {h} {st} {n} (next (state fs′ h′ st′ n′)) own s k (goes q) e =
+    outcome {fs} {h} {st} {n} (next (state fs′ h′ st′ n′)) own s r k (goes q) e =
         let v = k .0 in
-        goes-on (proper n {fs = fs} own s (entries-typed t J (v .T) h′ (v .types) (v .records) fs′ st′ (v .store) (v .owned)) (k .1)) (q .0) (q .1) (frozen-by fs fs′ h h′ st st′ n n′ e)
-    outcome (finished vs z) own s k (ends q) e = rw (q .3) (returnsLast (q .0) (q .1) (q .2))
-    outcome {fs} {h} {st} {n} (stopped j) own s k q e = stops-there (λ z. absurd (freeze-runs t (indexOf t) id p i ops ls fs h st n (ap (λ (r : Row). r .a) found ∙ z) j (sym e)))
-    outcome stuck own s k q e = absurd k
+        goes-on (unhindered fs h st n r e) (proper n {fs = fs} own s (entries-typed t J (v .T) h′ (v .types) (v .records) fs′ st′ (v .store) (v .owned)) (k .1)) (q .0) (q .1) (frozen-by fs fs′ h h′ st st′ n n′ e) (calculated-by fs fs′ h h′ st st′ n n′ r e)
+    outcome (finished vs z) own s r k (ends q) e = rw (q .3) (returnsLast (q .0) (q .1) (q .2))
+    outcome (stopped j) own s r k (stops c) e = stops-there (inr c)
+    outcome stuck own s r k q e = absurd k
 
   -- a moment is safe
   handed-moment : (s : State) (row : ℕ) (o : Outcome) → MomentOk t J s row o → (o ≡ step t (indexOf t) s) → HandedAt t J s o
@@ -168,7 +197,7 @@ module _ (t : List ℕ) (J : Judged t (indexOf t)) where
       → MomentOk t J (state (frame id p i ops ls ∷ fs) h st n) row o → Kept t (frame id p i ops ls) → Sound t (frame id p i ops ls ∷ fs) h st
       → SafeOutcome t (indexOf t) (procedureIn (indexOf t) p .code + i) id p i ops ls fs h st n o
   safe-outcome f row o m own s =
-      ⊎-elim (λ e. outcome f o own s (outcome-ok t J _ row o m) (handed-moment _ row o m e) e) (λ e. rw e (stops-there (λ z. refl))) (m .did)
+      ⊎-elim (λ e. outcome f o own s (m .within .1) (outcome-ok t J _ row o m) (handed-moment _ row o m e) e) (λ e. rw e (stops-there (inl refl))) (m .did)
 
   safe-moment : (s : State) (row : ℕ) (o : Outcome) → MomentOk t J s row o → Safe t (indexOf t) (moment s row o)
   safe-moment (state fs h st n) row o m = go fs (m .holds .frames) m
@@ -190,6 +219,15 @@ module _ (t : List ℕ) (J : Judged t (indexOf t)) where
             rising = k .within .1;
           }) (safe-outcome f row o k (all-head own) here-sound))
 
+  -- a stop has its cause
+  stops-at : (s : State) (row k : ℕ) → MomentOk t J s row (stopped k) → StopsAt t (indexOf t) row s k
+  stops-at (state [] h st n) row k m = absurd (no-frame t J (m .holds))
+  stops-at (state (frame id p i ops ls ∷ fs) h st n) row k m =
+      ⊎-elim (λ e. rw (m .at) (inr (cause (handed-moment _ row (stopped k) m e)))) (λ e. inl (cc (e))) (m .did)
+    where
+      cause : HandedAt t J (state (frame id p i ops ls ∷ fs) h st n) (stopped k) → Cause t (procedureIn (indexOf t) p .code + i) ops (frame id p i ops ls ∷ fs) h st k
+      cause (stops c) = c
+
   -- a call that is done leaves no frame, and records, store and count as they were at its last moment
   abbrev emptied : State → State
   emptied (state fs h st n) = state [] h st n
@@ -200,22 +238,22 @@ module _ (t : List ℕ) (J : Judged t (indexOf t)) where
 
   -- an end is safe
   end-go : (before : Base) (s : State) (row : ℕ) (o : Outcome) → BaseOk t J before → used before ≤ usedAt s → ((s′ : State) → o ≡ next s′ → ⊥) → OutcomeOk t (DidAt t s) o → Within t J s
-      → ((vs : List Value) (z : State) → o ≡ finished vs z → z ≡ emptied s) → Safe t (indexOf t) (ended before s row o (afterwards before s o))
+      → ((vs : List Value) (z : State) → o ≡ finished vs z → z ≡ emptied s) → ((k : ℕ) → o ≡ stopped k → StopsAt t (indexOf t) row s k) → Safe t (indexOf t) (ended before s row o (afterwards before s o))
   unfolding BaseOk
-  end-go before s row (next z) v l f k w d = absurd (f z refl)
-  end-go (base h₀ st₀ n₀) (state fs h st n) row (finished vs z) v l f k w d =
+  end-go before s row (next z) v l f k w d c = absurd (f z refl)
+  end-go (base h₀ st₀ n₀) (state fs h st n) row (finished vs z) v l f k w d c =
       let e : z ≡ state [] h st n = d vs z refl in
       let u : Rest t h st × DidAt t (state fs h st n) h st × All IsNumber vs × (length vs ≤ maxResults) = rw e at k in
       let after : Later t (indexOf t) (state fs h st n) (base h st n) = (omega arith, omega arith, between h st (u .0) (w .0)) in
       rw e (ends-there {s = state fs h st n} (finishes (u .2) (u .3)) after)
-  end-go (base h₀ st₀ n₀) (state fs h st n) row (stopped j) v l f k w d =
+  end-go (base h₀ st₀ n₀) (state fs h st n) row (stopped j) v l f k w d c =
       let back : Restored t (indexOf t) (base h₀ st₀ n₀) (base (restored h₀ h) st₀ n) = (refl, (λ id c e. nth-app h₀ (map bury (drop (length h₀) h)) id c e), buried-dead h₀ (drop (length h₀) h)) in
       let after : Later t (indexOf t) (state fs h st n) (base (restored h₀ h) st₀ n) = (restored-length h₀ h l, omega arith, let r = restored-ok t J h₀ h st₀ (v .0) (v .1) in between (restored h₀ h) st₀ (r .0) (r .1)) in
-      ends-there (restores back) after
-  end-go before s row stuck v l f k w d = absurd k
+      ends-there (restores (c j refl) back) after
+  end-go before s row stuck v l f k w d c = absurd k
 
   safe-ended : (before : Base) (s : State) (row : ℕ) (o : Outcome) (after : Base) → EndOk t J before s row o after → Safe t (indexOf t) (ended before s row o after)
-  safe-ended before s row o after m = rw (m .leaves) (end-go before s row o (m .began) (m .longer) (m .over) (outcome-ok t J s row o (m .last)) (m .last .within) (λ vs z e. done-as s vs z (done-at vs z e)))
+  safe-ended before s row o after m = rw (m .leaves) (end-go before s row o (m .began) (m .longer) (m .over) (outcome-ok t J s row o (m .last)) (m .last .within) (λ vs z e. done-as s vs z (done-at vs z e)) (λ k e. stops-at s row k (rw e at (m .last))))
     where
       done-at : (vs : List Value) (z : State) → o ≡ finished vs z → HandedAt t J s (finished vs z)
       done-at vs z e = rw e at (⊎-elim (λ q. handed-moment s row o (m .last) q) (λ q. absurd (clash (cc (q, e)))) (m .last .did))

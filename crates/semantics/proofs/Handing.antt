@@ -7,7 +7,7 @@ use mathlib.Core.Option.{Option, none, some}
 use mathlib.Core.Logic.{_⊎_, inl, inr, ⊎-elim, _≢_}
 use native.Mathlib.Omega.{arith}
 use lib.ListN.{length, getD, set, getElem? as nth}
-use lib.Dec.{eqb, ltb}
+use lib.Dec.{eqb}
 use Rattle.table.specs.declared.index.Index.{Index}
 use Rattle.table.specs.declared.index.ProcedureEntry.{ProcedureEntry}
 use Rattle.table.specs.Format.{opWriteRef, opFreeze}
@@ -15,18 +15,22 @@ use Rattle.table.specs.Rows.{rowAt}
 use Rattle.declarations.specs.Program.{procedureIn, localCount, localKind}
 use Rattle.reach.specs.Reach.{Mem}
 use Rattle.arithmetic.specs.declared.Calculated.{Calculated}
-use Rattle.arithmetic.specs.declared.Calculated.the-variants.{Value as Gives, OutOfRange, Unknown}
+use Rattle.arithmetic.specs.declared.Calculated.the-variants.{Value as Gives, TooLarge, BelowZero, Unknown}
 use Rattle.arithmetic.specs.Arithmetic.{calculation}
-use Rattle.semantics.specs.Machine.{Ref, toLocal, toField, toRecord, Value, num, obj, refer, valueKind, writable, Cell, gone, here, Entry, Frame, frame, State, state, next, stuck, liveCount, findKey, putLocal, Target, aRecord, inCell, target, writeFrames}
+use Rattle.arithmetic.proofs.Range as Range
+use Rattle.semantics.specs.Machine.{Ref, toLocal, toField, toRecord, Value, num, obj, refer, valueKind, writable, Cell, gone, here, Entry, Frame, frame, State, state, next, stuck, liveCount, findKey, putLocal, Target, aRecord, stale, inCell, target, writeFrames}
 use Rattle.semantics.specs.Step.{pushedOn, Taken, took, missing, taken, alsoTaken, withTaken, startLocals, returned, noneHeld, calculated, actions, instruction, effectAt, act, step}
-use Rattle.semantics.specs.Limits.{maxFrames, maxRecords, maxEntries, outOfRange, keyTaken, noSuchKey, tooManyFrames, tooManyRecords, tooManyEntries}
+use Rattle.semantics.specs.Limits.{maxFrames, maxRecords, maxEntries, staleReference}
 use Rattle.semantics.specs.Words.{bodyOf, Holds, operand, local}
+use Rattle.semantics.specs.Stops.{Cause, too-large, below-zero, key-taken, no-such-key, stale-there, stale-written, frames-full, records-full, entries-full}
 use Rattle.semantics.specs.Claim.{All, none-left, also, Rising, IsReference, Makes, local-made, field-made, nested-made, entry-made, frozen-made, Takes, Handed, goesOn, writes, calls, returns, Origin}
 use Rattle.semantics.proofs.Changes.{clash}
+use Rattle.semantics.proofs.Sounds.{found-there, none-found}
 use Rattle.semantics.proofs.Typing.{Fields, dnil, dnum, dobj, CellOk}
 use Rattle.semantics.proofs.Frames.{all-set}
 use Rattle.semantics.proofs.Running.{target-same}
-use Rattle.semantics.proofs.Outcomes.{OutQ, goes, ends, stops, sticks, cond-q, local-q, one-q, two-q, number-q, record-q, reference-q, number-at-q, record-at-q, fields-at-q, fillable-q, field-q, key-q, under-q, pick}
+use Rattle.semantics.proofs.Stale.{stale-value}
+use Rattle.semantics.proofs.Outcomes.{OutQ, goes, ends, stops, sticks, cond-q, limit-q, local-q, one-q, two-q, number-q, record-q, reference-q, number-at-q, record-at-q, fields-at-q, fillable-q, field-q, key-q, under-q, pick}
 
 -- lists
 pub all-in : {A : Type 0} (Q : A → Type 0) (l : List A) → ((x : A) → Mem x l → Q x) → All Q l
@@ -140,6 +144,10 @@ module _ (t : List ℕ) (ix : Index) (T : List ℕ) (row id p i : ℕ) (ops : Li
   abbrev E : List Value → State → Type 0
   E vs s = (rowAt t row .a ≡ 16) × Takes t ix p i ops vs [] × (fs ≡ []) × (s ≡ state [] rs st n)
 
+  -- a stop has its cause
+  abbrev S : ℕ → Type 0
+  S k = Cause t row ops here-now rs st k
+
   -- the instruction took the values vs and left `under`
   module _ (vs under : List Value) (takes : Takes t ix p i ops vs under) where
     shape : ops ≡ pushedOn vs under
@@ -149,24 +157,30 @@ module _ (t : List ℕ) (ix : Index) (T : List ℕ) (row id p i : ℕ) (ops : Li
     split = split-back Known ops vs under shape ops-known
 
     on : (k j : ℕ) {ws : List Value} {ls′ : List (Option Value)} {rs′ : List Cell} {st′ : List Entry} → ordinary k ≡ true → rowAt t row .a ≡ k → All Known ws → All (SlotQ Known) ls′
-        → OutQ G E (next (state (frame id p j (pushedOn ws under) ls′ ∷ fs) rs′ st′ n))
+        → OutQ G E S (next (state (frame id p j (pushedOn ws under) ls′ ∷ fs) rs′ st′ n))
     on k j {ws} {ls′} o e a c = let z = apart (rowAt t row .a) k o e in goes (goesOn (z .0) (z .1), from j fs (push-q Known ws under a (split .1)) c)
 
     abbrev lead : Value → Target
     lead r = target (frame id p i under ls ∷ fs) rs r
 
     -- where a reference leads does not depend on the operands
-    leads : (r : Value) (c : ℕ) (ws : List Value) → lead r ≡ aRecord c ws → target here-now rs r ≡ aRecord c ws
-    leads r c ws z = target-same id p i i ops under ls fs rs r ∙ z
+    leads : (r : Value) {x : Target} → lead r ≡ x → target here-now rs r ≡ x
+    leads r z = target-same id p i i ops under ls fs rs r ∙ z
 
     top : (r : Value) → vs ≡ r ∷ [] → ops ≡ r ∷ under
     top r q = shape ∙ ap (λ (l : List Value). pushedOn l under) q
+
+    stale-here : (r : Value) → ops ≡ r ∷ under → (rowAt t row .a ≡ 6) ⊎ (rowAt t row .a ≡ 8) → lead r ≡ stale → S staleReference
+    stale-here r q e z = let g = stale-value here-now rs r (leads r z) in stale-there e (q ∙ ap (λ (u : Value). u ∷ under) (g .2)) (g .3)
+
+    only-number : (a : ℕ) (w : Value) → vs ≡ w ∷ [] → w ≡ num a → ops ≡ num a ∷ under
+    only-number a w q u = top (num a) (q ∙ ap (λ (x : Value). x ∷ []) u)
 
     put-known : (b : Bool) (f l x : ℕ) → Origin t ix row id p i ops ls fs rs st (cond b (frame id p (i + 1) under (set ls l (some (num x))) ∷ fs) (frame id p (i + 1) under ls ∷ putLocal fs f l (num x)))
     put-known true f l x = from (i + 1) fs (split .1) (all-set slots-known l (some (num x)) (number-known x))
     put-known false f l x = from (i + 1) (putLocal fs f l (num x)) (split .1) slots-known
 
-    written : (r : Value) (x : ℕ) {rs′ : List Cell} → rowAt t row .a ≡ 7 → ops ≡ r ∷ num x ∷ under → OutQ G E (next (state (writeFrames (frame id p (i + 1) under ls ∷ fs) r (num x)) rs′ st n))
+    written : (r : Value) (x : ℕ) {rs′ : List Cell} → rowAt t row .a ≡ 7 → ops ≡ r ∷ num x ∷ under → OutQ G E S (next (state (writeFrames (frame id p (i + 1) under ls ∷ fs) r (num x)) rs′ st n))
     written (num m) x e s = on 7 (i + 1) {ws = []} refl e none-left slots-known
     written (obj c y) x e s = on 7 (i + 1) {ws = []} refl e none-left slots-known
     written (refer w (toLocal f l k)) x e s = goes (writes e (s ∙ ap (λ (u : Bool). refer u (toLocal f l k) ∷ num x ∷ under) (through (inl e) w (toLocal f l k) (num x ∷ under) s)), put-known (eqb id f) f l x)
@@ -179,14 +193,14 @@ module _ (t : List ℕ) (ix : Index) (T : List ℕ) (row id p i : ℕ) (ops : Li
         let s : ops ≡ refer w r ∷ under = top (refer w r) (q ∙ ap (λ (x : Value). x ∷ []) u) in
         inr (frozen-made e (s ∙ ap (λ (x : Bool). refer x r ∷ under) (through (inr e) w r under s)))
 
-    back : (gs : List Frame) → fs ≡ gs → rowAt t row .a ≡ 16 → under ≡ [] → OutQ G E (returned gs vs rs st n)
+    back : (gs : List Frame) → fs ≡ gs → rowAt t row .a ≡ 16 → under ≡ [] → OutQ G E S (returned gs vs rs st n)
     back [] q e u = ends (e, rw u at takes, q, refl)
     back (frame id′ p′ i′ ops′ ls′ ∷ rest) q e u =
         let z : Rising id (frame id′ p′ i′ ops′ ls′ ∷ rest) = rw q at (rising .1) in
         goes (returns e (rw u at takes) q, λ w. absurd (omega (arith, z .0, w)))
 
     called : {rs′ : List Cell} {st′ : List Entry} → rowAt t row .a ≡ 15
-        → OutQ G E (next (state (frame n (rowAt t row .b) 0 [] (startLocals vs (localCount (procedureIn ix (rowAt t row .b)) - length vs)) ∷ frame id p i under ls ∷ fs) rs′ st′ (n + 1)))
+        → OutQ G E S (next (state (frame n (rowAt t row .b) 0 [] (startLocals vs (localCount (procedureIn ix (rowAt t row .b)) - length vs)) ∷ frame id p i under ls ∷ fs) rs′ st′ (n + 1)))
     called e = goes (entered-by (callee e), λ w. absurd (omega (arith, rising .0, w)))
       where
         entered-by : {b : ProcedureEntry} → b ≡ bodyOf t (rowAt t row .b) → Handed t ix row id p i ops ls fs n (frame n (rowAt t row .b) 0 [] (startLocals vs (localCount b - length vs)) ∷ frame id p i under ls ∷ fs) (n + 1)
@@ -211,60 +225,66 @@ module _ (t : List ℕ) (ix : Index) (T : List ℕ) (row id p i : ℕ) (ops : Li
         made-by : {c : ProcedureEntry} → c ≡ bodyOf t p → Makes t row id p ops here-now rs st (refer true (toLocal id b (localKind t c b)))
         made-by c = rw c (local-made e)
 
-    given : rowAt t row .a ≡ 19 → (c : Calculated) → OutQ G E (calculated (rowAt t row .b) (rowAt t row .d) (localKind t (procedureIn ix p) (rowAt t row .b)) (localCount (procedureIn ix (rowAt t row .b)) - length vs) vs id p i under ls fs rs st n c)
-    given e (Gives x) = on 19 (i + 1) {ws = num x ∷ []} refl e (also (number-known x) none-left) slots-known
-    given e OutOfRange = stops outOfRange (omega arith)
-    given e Unknown = sticks
+    -- the two operands that were taken, the second on top
+    both : (v w : Value) → vs ≡ v ∷ w ∷ [] → ops ≡ w ∷ v ∷ under
+    both v w q = shape ∙ ap (λ (l : List Value). pushedOn l under) q
 
-    acted : OutQ G E (getD (actions (rowAt t row .b) (rowAt t row .d) (localKind t (procedureIn ix p) (rowAt t row .b)) (localCount (procedureIn ix (rowAt t row .b)) - length vs) vs id p i under ls fs rs st n) (rowAt t row .a) stuck)
+    given : rowAt t row .a ≡ 19 → (x y : ℕ) → ops ≡ num y ∷ num x ∷ under → (c : Calculated) → calculation b x y ≡ c
+        → OutQ G E S (calculated (rowAt t row .b) (rowAt t row .d) (localKind t (procedureIn ix p) (rowAt t row .b)) (localCount (procedureIn ix (rowAt t row .b)) - length vs) vs id p i under ls fs rs st n c)
+    given e x y q (Gives z) d = on 19 (i + 1) {ws = num z ∷ []} refl e (also (number-known z) none-left) slots-known
+    given e x y q TooLarge d = let g = Range.too-large b x y .0 d in stops (too-large (x, y, (e, g .0, (under, q)), g .1))
+    given e x y q BelowZero d = let g = Range.below-zero b x y .0 d in stops (below-zero (x, y, (e, g .0, (under, q)), omega (arith, g .1)))
+    given e x y q Unknown d = sticks
+
+    acted : OutQ G E S (getD (actions (rowAt t row .b) (rowAt t row .d) (localKind t (procedureIn ix p) (rowAt t row .b)) (localCount (procedureIn ix (rowAt t row .b)) - length vs) vs id p i under ls fs rs st n) (rowAt t row .a) stuck)
     unfolding actions
-    acted = pick G E (rowAt t row .a) 0 (actions (rowAt t row .b) (rowAt t row .d) (localKind t (procedureIn ix p) (rowAt t row .b)) (localCount (procedureIn ix (rowAt t row .b)) - length vs) vs id p i under ls fs rs st n) (
+    acted = pick G E S (rowAt t row .a) 0 (actions (rowAt t row .b) (rowAt t row .d) (localKind t (procedureIn ix p) (rowAt t row .b)) (localCount (procedureIn ix (rowAt t row .b)) - length vs) vs id p i under ls fs rs st n) (
       (λ e. on 0 (i + 1) {ws = []} refl e none-left slots-known),
       (
         (λ e. on 1 (i + 1) {ws = num d ∷ []} refl e (also (number-known d) none-left) slots-known),
         (
-          (λ e. local-q G E (nth ls b) _ (λ v q. on 2 (i + 1) {ws = v ∷ []} refl e (also (held v q) none-left) (all-set slots-known b none tt))),
+          (λ e. local-q G E S (nth ls b) _ (λ v q. on 2 (i + 1) {ws = v ∷ []} refl e (also (held v q) none-left) (all-set slots-known b none tt))),
           (
-            (λ e. local-q G E (nth ls b) _ (λ v q. on 3 (i + 1) {ws = v ∷ []} refl e (also (held v q) none-left) slots-known)),
+            (λ e. local-q G E S (nth ls b) _ (λ v q. on 3 (i + 1) {ws = v ∷ []} refl e (also (held v q) none-left) slots-known)),
             (
-              (λ e. one-q G E vs _ (λ v q. fillable-q G E (nth ls b) _ (on 4 (i + 1) {ws = []} refl e none-left (all-set slots-known b (some v) (only v q))))),
+              (λ e. one-q G E S vs _ (λ v q. fillable-q G E S (nth ls b) _ (on 4 (i + 1) {ws = []} refl e none-left (all-set slots-known b (some v) (only v q))))),
               (
-                (λ e. local-q G E (nth ls b) _ (λ v q. on 5 (i + 1) {ws = refer true (toLocal id b (localKind t (procedureIn ix p) b)) ∷ []} refl e (also (borrowed e) none-left) slots-known)),
+                (λ e. local-q G E S (nth ls b) _ (λ v q. on 5 (i + 1) {ws = refer true (toLocal id b (localKind t (procedureIn ix p) b)) ∷ []} refl e (also (borrowed e) none-left) slots-known)),
                 (
-                  (λ e. one-q G E vs _ (λ r q. number-at-q G E (lead r) _ (λ x. on 6 (i + 1) {ws = num x ∷ []} refl e (also (number-known x) none-left) slots-known))),
+                  (λ e. one-q G E S vs _ (λ r q. number-at-q G E S (lead r) _ (stale-here r (top r q) (inl e)) (λ x. on 6 (i + 1) {ws = num x ∷ []} refl e (also (number-known x) none-left) slots-known))),
                   (
-                    (λ e. two-q G E vs _ (λ v r q. number-q G E v _ (λ x w. number-at-q G E (lead r) _ (λ y. written r x e (shape ∙ ap (λ (l : List Value). pushedOn l under) (q ∙ ap (λ (u : Value). u ∷ r ∷ []) w)))))),
+                    (λ e. two-q G E S vs _ (λ v r q. number-q G E S v _ (λ x w. let s = both (num x) r (q ∙ ap (λ (u : Value). u ∷ r ∷ []) w) in number-at-q G E S (lead r) _ (λ z. let g = stale-value here-now rs r (leads r z) in stale-written e (s ∙ ap (λ (u : Value). u ∷ num x ∷ under) (g .2)) (g .3)) (λ y. written r x e s)))),
                     (
-                      (λ e. one-q G E vs _ (λ r q. record-at-q G E (lead r) _ (λ c ws z. field-q G E c (b / 8) (b % 8) (nth ws (b % 8)) _
-                          (on 8 (i + 1) {ws = refer (writable r) (toField c (b / 8) (b % 8)) ∷ []} refl e (also (λ w. inr (field-made e (top r q) (leads r c ws z))) none-left) slots-known)
-                          (λ c′ y u. on 8 (i + 1) {ws = refer (writable r) (toRecord c′ y) ∷ []} refl e (also (λ w. inr (nested-made e (top r q) (leads r c ws z) u)) none-left) slots-known)))),
+                      (λ e. one-q G E S vs _ (λ r q. record-at-q G E S (lead r) _ (stale-here r (top r q) (inr e)) (λ c ws z. field-q G E S c (b / 8) (b % 8) (nth ws (b % 8)) _
+                          (on 8 (i + 1) {ws = refer (writable r) (toField c (b / 8) (b % 8)) ∷ []} refl e (also (λ w. inr (field-made e (top r q) (leads r z))) none-left) slots-known)
+                          (λ c′ y u. on 8 (i + 1) {ws = refer (writable r) (toRecord c′ y) ∷ []} refl e (also (λ w. inr (nested-made e (top r q) (leads r z) u)) none-left) slots-known)))),
                       (
-                        (λ e. cond-q G E (ltb (liveCount rs) maxRecords) _ _ (on 9 (i + 1) {ws = obj (length rs) b ∷ []} refl e (also (record-known (length rs) b) none-left) slots-known) (stops tooManyRecords (omega arith))),
+                        (λ e. limit-q G E S (liveCount rs) maxRecords _ _ (on 9 (i + 1) {ws = obj (length rs) b ∷ []} refl e (also (record-known (length rs) b) none-left) slots-known) (λ l. stops (records-full e l))),
                         (
-                          (λ e. one-q G E vs _ (λ v q. record-q G E v _ (λ a. fields-at-q G E (inCell a (nth rs a)) _ (λ c ws z. let y = in-cell-here a (nth rs a) c ws z in on 10 (i + 1) {ws = ws} refl e (cells-known a (y .0) ws (y .1)) slots-known)))),
+                          (λ e. one-q G E S vs _ (λ v q. record-q G E S v _ (λ a c o. fields-at-q G E S (inCell a (nth rs a)) _ (λ c ws z. let y = in-cell-here a (nth rs a) c ws z in on 10 (i + 1) {ws = ws} refl e (cells-known a (y .0) ws (y .1)) slots-known)))),
                           (
-                            (λ e. two-q G E vs _ (λ v w q. record-q G E v _ (λ r. number-q G E w _ (λ a u. key-q G E (findKey st b a) _ _
-                                (cond-q G E (ltb (length st) maxEntries) _ _ (on 11 (i + 1) {ws = []} refl e none-left slots-known) (stops tooManyEntries (omega arith))) (λ r′ z. stops keyTaken (omega arith)))))),
+                            (λ e. two-q G E S vs _ (λ v w q. record-q G E S v _ (λ r c o. number-q G E S w _ (λ a u. let s = both (obj r c) (num a) (cc (q, o, u)) in key-q G E S (findKey st b a) _ _
+                                (λ z. limit-q G E S (length st) maxEntries _ _ (on 11 (i + 1) {ws = []} refl e none-left slots-known) (λ l. stops (entries-full e s (none-found st b a z) l))) (λ r′ z. stops (key-taken e s (found-there st b a r′ z))))))),
                             (
-                              (λ e. one-q G E vs _ (λ w q. number-q G E w _ (λ a u. key-q G E (findKey st b a) _ _ (stops noSuchKey (omega arith)) (λ r z. on 12 (i + 1) {ws = obj r b ∷ []} refl e (also (record-known r b) none-left) slots-known)))),
+                              (λ e. one-q G E S vs _ (λ w q. number-q G E S w _ (λ a u. key-q G E S (findKey st b a) _ _ (λ z. stops (no-such-key (inl e) (only-number a w q u) (none-found st b a z))) (λ r z. on 12 (i + 1) {ws = obj r b ∷ []} refl e (also (record-known r b) none-left) slots-known)))),
                               (
-                                (λ e. one-q G E vs _ (λ w q. number-q G E w _ (λ a u. key-q G E (findKey st b a) _ _ (stops noSuchKey (omega arith))
-                                    (λ r z. on 13 (i + 1) {ws = refer true (toRecord r b) ∷ []} refl e (also (λ k. inr (entry-made e (top (num a) (q ∙ ap (λ (x : Value). x ∷ []) u)) z)) none-left) slots-known)))),
+                                (λ e. one-q G E S vs _ (λ w q. number-q G E S w _ (λ a u. key-q G E S (findKey st b a) _ _ (λ z. stops (no-such-key (inr e) (only-number a w q u) (none-found st b a z)))
+                                    (λ r z. on 13 (i + 1) {ws = refer true (toRecord r b) ∷ []} refl e (also (λ k. inr (entry-made e (only-number a w q u) z)) none-left) slots-known)))),
                                 (
-                                  (λ e. one-q G E vs _ (λ w q. number-q G E w _ (λ a u. key-q G E (findKey st b a) _ _ (on 14 (i + 1) {ws = num 0 ∷ []} refl e (also (number-known 0) none-left) slots-known)
+                                  (λ e. one-q G E S vs _ (λ w q. number-q G E S w _ (λ a u. key-q G E S (findKey st b a) _ _ (λ z. on 14 (i + 1) {ws = num 0 ∷ []} refl e (also (number-known 0) none-left) slots-known)
                                       (λ r z. on 14 (i + 1) {ws = num 1 ∷ []} refl e (also (number-known 1) none-left) slots-known)))),
                                   (
-                                    (λ e. cond-q G E (ltb (length fs + 1) maxFrames) _ _ (called e) (stops tooManyFrames (omega arith))),
+                                    (λ e. limit-q G E S (length fs + 1) maxFrames _ _ (called e) (λ l. stops (frames-full e (omega (arith, l))))),
                                     (
-                                      (λ e. cond-q G E (noneHeld ls) _ _ (under-q G E under _ (λ u. back fs refl e u)) sticks),
+                                      (λ e. cond-q G E S (noneHeld ls) _ _ (under-q G E S under _ (λ u. back fs refl e u)) sticks),
                                       (
                                         (λ e. on 17 b {ws = []} refl e none-left slots-known),
                                         (
-                                          (λ e. one-q G E vs _ (λ v q. number-q G E v _ (λ x u. on 18 _ {ws = []} refl e none-left slots-known))),
+                                          (λ e. one-q G E S vs _ (λ v q. number-q G E S v _ (λ x u. on 18 _ {ws = []} refl e none-left slots-known))),
                                           (
-                                            (λ e. two-q G E vs _ (λ v w q. number-q G E v _ (λ x u. number-q G E w _ (λ y u′. given e (calculation b x y))))),
+                                            (λ e. two-q G E S vs _ (λ v w q. number-q G E S v _ (λ x u. number-q G E S w _ (λ y u′. given e x y (both (num x) (num y) (cc (q, u, u′))) (calculation b x y) refl)))),
                                             (
-                                              (λ e. one-q G E vs _ (λ v q. reference-q G E v _ (λ w r u. on 20 (i + 1) {ws = refer false r ∷ []} refl e (also (frozen e v w r q u) none-left) slots-known))),
+                                              (λ e. one-q G E S vs _ (λ v q. reference-q G E S v _ (λ w r u. on 20 (i + 1) {ws = refer false r ∷ []} refl e (also (frozen e v w r q u) none-left) slots-known))),
                                               tt,
                                             ),
                                           ),
@@ -289,12 +309,12 @@ module _ (t : List ℕ) (ix : Index) (T : List ℕ) (row id p i : ℕ) (ops : Li
     )
         (rowAt t row .a) (omega arith)
 
-  pub handed : instruction t ix p i ≡ rowAt t row → OutQ G E (step t ix (state (frame id p i ops ls ∷ fs) rs st n))
+  pub handed : instruction t ix p i ≡ rowAt t row → OutQ G E S (step t ix (state (frame id p i ops ls ∷ fs) rs st n))
   unfolding act
-  handed found = rw found (cond-q G E (effectAt t ix p i ops .fit) _ _ (go (taken (effectAt t ix p i ops .takes) ops) refl) sticks)
+  handed found = rw found (cond-q G E S (effectAt t ix p i ops .fit) _ _ (go (taken (effectAt t ix p i ops .takes) ops) refl) sticks)
     where
       go : (x : Taken) → taken (effectAt t ix p i ops .takes) ops ≡ x
-          → OutQ G E (withTaken x λ (vs rest : List Value).
+          → OutQ G E S (withTaken x λ (vs rest : List Value).
           getD (actions (rowAt t row .b) (rowAt t row .d) (localKind t (procedureIn ix p) (rowAt t row .b)) (localCount (procedureIn ix (rowAt t row .b)) - length vs) vs id p i rest ls fs rs st n) (rowAt t row .a) stuck)
       go missing e = sticks
       go (took vs under) e = acted vs under e

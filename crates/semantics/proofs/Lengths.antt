@@ -12,7 +12,7 @@ use Rattle.table.specs.Index.{indexOf}
 use Rattle.judging.specs.Judging.{judgeOf}
 use Rattle.acceptance.specs.Judged.{Bytes, Judged}
 use Rattle.acceptance.proofs.Judged.{judged}
-use Rattle.semantics.specs.Machine.{Value, obj, Cell, here, Entry, entry, Outcome}
+use Rattle.semantics.specs.Machine.{Value, obj, Cell, here, Entry, entry, State, Outcome}
 use Rattle.semantics.specs.Calls.{listOf, callsOf}
 use Rattle.semantics.specs.History.{Base, base, Event, moment, ended, history, nothing, lastBase}
 use Rattle.semantics.specs.Ascii.{ascii}
@@ -37,10 +37,10 @@ results-text [] none-left = omega arith
 results-text (v ∷ vs) (also k a) = rw (k .1) (omega (arith, number-text (λ (id : ℕ). []) (k .0) vs, results-text vs a))
 
 -- how a call ended: at most 94 bytes
-ending-text : (t : List ℕ) (before : Base) (row : ℕ) (o : Outcome) (after : Base) → SafeEnd t (indexOf t) before o after → length (ending row o) ≤ 94
+ending-text : (t : List ℕ) (before : Base) (s : State) (row : ℕ) (o : Outcome) (after : Base) → SafeEnd t (indexOf t) before s row o after → length (ending row o) ≤ 94
 unfolding ascii
-ending-text t before row o after (finishes {vs} a l) = simp length-append (omega (arith, results-text vs a, l))
-ending-text t before row o after (restores {k} r) = simp length-append (omega (arith, decimal-few k, decimal-few row))
+ending-text t before s row o after (finishes {vs} a l) = simp length-append (omega (arith, results-text vs a, l))
+ending-text t before s row o after (restores {k} c r) = simp length-append (omega (arith, decimal-few k, decimal-few row))
 
 -- a call's line
 line-text : (i row : ℕ) (o : Outcome) → length (ending row o) ≤ 94 → length (callLine i row o) ≤ 120
@@ -53,7 +53,7 @@ unfolding callLines
 lines-text t i [] a = omega arith
 lines-text t i (moment s r o ∷ es) (also k a) = lines-text t i es a
 lines-text t i (ended before s r o after ∷ es) (also (at-end e l) a) =
-    omega (arith, length-append (callLine i r o) (callLines (i + 1) es), line-text i r o (ending-text t before r o after e), lines-text t (i + 1) es a)
+    omega (arith, length-append (callLine i r o) (callLines (i + 1) es), line-text i r o (ending-text t before s r o after e), lines-text t (i + 1) es a)
 
 -- The store's lines. An entry holds its record as a value does
 abbrev roots : List Entry → List Value

@@ -18,9 +18,11 @@ pub mod Guests
 pub mod Owning
 pub mod Placed
 pub mod Labels
+pub mod Stale
 pub mod Outcomes
 pub mod Handing
 pub mod Invariant
+pub mod Stops
 pub mod Demand3
 pub mod Printed
 pub mod Ends
@@ -35,3 +37,4 @@ pub mod Guarded
 pub mod Shut
 pub mod ShutSteps
 pub mod ShutCalls
+pub mod ShutStops

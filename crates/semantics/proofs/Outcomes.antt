@@ -1,27 +1,36 @@
 -- A property of what an instruction comes to, brought through the parts of which `actions` is made.
-use Prim.Native.Nat.{ℕ, zero, suc, _+_, _<_}
+use Prim.Native.Nat.{ℕ, zero, suc, _+_, _≤_}
 use mathlib.Core.Path.{_≡_, refl, ap}
 use mathlib.Core.List.{List, [], _∷_}
 use mathlib.Core.Bool.{Bool, true, false, cond}
 use mathlib.Core.Option.{Option, none, some}
 use native.Mathlib.Omega.{arith}
+use borrow.Author.Tests.{ltb-false}
+use lib.Dec.{ltb}
 use lib.ListN.{getD}
 use Rattle.semantics.specs.Machine.{Ref, toField, toRecord, Value, num, obj, refer, Cell, Entry, Frame, State, state, Outcome, next, finished, stopped, stuck, Target, aNumber, aRecord, stale, wrong}
-use Rattle.arithmetic.specs.Arithmetic.{pastNumbers}
 use Rattle.semantics.specs.Limits.{staleReference}
 use Rattle.semantics.specs.Step.{one, two, withNumber, withRecord, withReference, numberAt, recordAt, fieldsAt, withLocal, isObject, fillable, nothingUnder, fieldReference, underKey}
 
--- G of the frames and their count where it goes on, E of the results and the state where the call is done; a stop is a number of 64 bits
-module _ (G : List Frame → ℕ → Type 0) (E : List Value → State → Type 0) where
+-- G of the frames and their count where it goes on, E of the results and the state where the call is done, S of the number of a stop
+module _ (G : List Frame → ℕ → Type 0) (E : List Value → State → Type 0) (S : ℕ → Type 0) where
   pub data OutQ : Outcome → Type 0 where
     goes : {fs : List Frame} {rs : List Cell} {st : List Entry} {n : ℕ} → G fs n → OutQ (next (state fs rs st n))
     ends : {vs : List Value} {s : State} → E vs s → OutQ (finished vs s)
-    stops : (k : ℕ) → k < pastNumbers → OutQ (stopped k)
+    stops : {k : ℕ} → S k → OutQ (stopped k)
     sticks : OutQ stuck
 
   pub cond-q : (c : Bool) (x y : Outcome) → OutQ x → OutQ y → OutQ (cond c x y)
   cond-q true x y a d = a
   cond-q false x y a d = d
+
+  -- below a limit or not
+  pub limit-q : (m n : ℕ) (x y : Outcome) → OutQ x → (n ≤ m → OutQ y) → OutQ (cond (ltb m n) x y)
+  limit-q m n x y a d = go (ltb m n) refl
+    where
+      go : (c : Bool) → ltb m n ≡ c → OutQ (cond c x y)
+      go true e = a
+      go false e = d (ltb-false m n e)
 
   pub local-q : (o : Option (Option Value)) (k : Value → Outcome) → ((v : Value) → o ≡ some (some v) → OutQ (k v)) → OutQ (withLocal o k)
   local-q none k f = sticks
@@ -42,9 +51,9 @@ module _ (G : List Frame → ℕ → Type 0) (E : List Value → State → Type 
   number-q (obj a y) k f = sticks
   number-q (refer w r) k f = sticks
 
-  pub record-q : (v : Value) (k : ℕ → Outcome) → ((n : ℕ) → OutQ (k n)) → OutQ (withRecord v k)
+  pub record-q : (v : Value) (k : ℕ → Outcome) → ((n y : ℕ) → v ≡ obj n y → OutQ (k n)) → OutQ (withRecord v k)
   record-q (num n) k f = sticks
-  record-q (obj a y) k f = f a
+  record-q (obj a y) k f = f a y refl
   record-q (refer w r) k f = sticks
 
   pub reference-q : (v : Value) (k : Ref → Outcome) → ((w : Bool) (r : Ref) → v ≡ refer w r → OutQ (k r)) → OutQ (withReference v k)
@@ -52,17 +61,17 @@ module _ (G : List Frame → ℕ → Type 0) (E : List Value → State → Type 
   reference-q (obj a y) k f = sticks
   reference-q (refer w r) k f = f w r refl
 
-  pub number-at-q : (x : Target) (k : ℕ → Outcome) → ((n : ℕ) → OutQ (k n)) → OutQ (numberAt x k)
-  number-at-q (aNumber n) k f = f n
-  number-at-q (aRecord a vs) k f = sticks
-  number-at-q stale k f = stops staleReference (omega arith)
-  number-at-q wrong k f = sticks
+  pub number-at-q : (x : Target) (k : ℕ → Outcome) → (x ≡ stale → S staleReference) → ((n : ℕ) → OutQ (k n)) → OutQ (numberAt x k)
+  number-at-q (aNumber n) k c f = f n
+  number-at-q (aRecord a vs) k c f = sticks
+  number-at-q stale k c f = stops (c refl)
+  number-at-q wrong k c f = sticks
 
-  pub record-at-q : (x : Target) (k : ℕ → List Value → Outcome) → ((a : ℕ) (vs : List Value) → x ≡ aRecord a vs → OutQ (k a vs)) → OutQ (recordAt x k)
-  record-at-q (aNumber n) k f = sticks
-  record-at-q (aRecord a vs) k f = f a vs refl
-  record-at-q stale k f = stops staleReference (omega arith)
-  record-at-q wrong k f = sticks
+  pub record-at-q : (x : Target) (k : ℕ → List Value → Outcome) → (x ≡ stale → S staleReference) → ((a : ℕ) (vs : List Value) → x ≡ aRecord a vs → OutQ (k a vs)) → OutQ (recordAt x k)
+  record-at-q (aNumber n) k c f = sticks
+  record-at-q (aRecord a vs) k c f = f a vs refl
+  record-at-q stale k c f = stops (c refl)
+  record-at-q wrong k c f = sticks
 
   pub fields-at-q : (x : Target) (k : List Value → Outcome) → ((a : ℕ) (vs : List Value) → x ≡ aRecord a vs → OutQ (k vs)) → OutQ (fieldsAt x k)
   fields-at-q (aNumber n) k f = sticks
@@ -81,8 +90,8 @@ module _ (G : List Frame → ℕ → Type 0) (E : List Value → State → Type 
   field-q a y j (some (obj c d)) k f g = g c d refl
   field-q a y j (some (refer w r)) k f g = sticks
 
-  pub key-q : (o : Option ℕ) (x : Outcome) (k : ℕ → Outcome) → OutQ x → ((r : ℕ) → o ≡ some r → OutQ (k r)) → OutQ (underKey o x k)
-  key-q none x k a f = a
+  pub key-q : (o : Option ℕ) (x : Outcome) (k : ℕ → Outcome) → (o ≡ none → OutQ x) → ((r : ℕ) → o ≡ some r → OutQ (k r)) → OutQ (underKey o x k)
+  key-q none x k a f = a refl
   key-q (some r) x k a f = f r refl
 
   pub under-q : (ops : List Value) (x : Outcome) → (ops ≡ [] → OutQ x) → OutQ (nothingUnder ops x)

@@ -21,6 +21,7 @@ use Rattle.semantics.specs.History.{moment}
 use Rattle.semantics.specs.Words.{Holds}
 use Rattle.semantics.specs.Claim.{Safe, safe, goes, stops}
 use Rattle.semantics.proofs.Instructions.{effect-at}
+use Rattle.semantics.proofs.Stops.{others}
 use Rattle.semantics.proofs.Consequences.{safe-state, HeldBy, held-before, Lends, lends}
 
 -- it leads where the writable one does
@@ -76,7 +77,7 @@ module _ (t : List ℕ) (ix : Index) (id p i : ℕ) (ops : List Value) (ls : Lis
 module _ {t : List ℕ} {ix : Index} {row id p i : ℕ} {ops : List Value} {ls : List (Option Value)} {fs : List Frame} {rs : List Cell} {st : List Entry} {n : ℕ} where
   -- Freeze stops for the budget alone
   pub freeze-goes-on : {k : ℕ} → Safe t ix (moment (state (frame id p i ops ls ∷ fs) rs st n) row (stopped k)) → rowAt t row .a ≡ opFreeze → k ≡ budgetSpent
-  freeze-goes-on (safe s (stops f)) = f
+  freeze-goes-on (safe s (stops c)) e = ⊎-elim (λ k. k) (λ q. absurd (others q .1 e)) c
 
   -- WriteRef comes up with no read-only reference, whatever comes of it
   pub read-only-kept : {o : Outcome} → Safe t ix (moment (state (frame id p i ops ls ∷ fs) rs st n) row o) → rowAt t row .a ≡ opWriteRef → (r : Ref) (rest : List Value) → ops ≡ refer false r ∷ rest → ⊥
@@ -86,7 +87,7 @@ module _ {t : List ℕ} {ix : Index} {row id p i : ℕ} {ops : List Value} {ls :
   pub never-thawed : {p′ i′ n′ : ℕ} {ops′ : List Value} {ls′ : List (Option Value)} {fs′ : List Frame} {rs′ : List Cell} {st′ : List Entry}
       → Safe t ix (moment (state (frame id p i ops ls ∷ fs) rs st n) row (next (state (frame id p′ i′ ops′ ls′ ∷ fs′) rs′ st′ n′)))
       → (r : Ref) → Holds (frame id p′ i′ ops′ ls′) (refer true r) → Holds (frame id p i ops ls) (refer true r) ⊎ Lends t row ops
-  never-thawed (safe s (goes a b c d)) r h = ⊎-elim (λ q. inl q) (λ q. inr (lends refl q)) (c refl (refer true r) tt h)
+  never-thawed (safe s (goes u a b c d g)) r h = ⊎-elim (λ q. inl q) (λ q. inr (lends refl q)) (c refl (refer true r) tt h)
 
   -- so with every frame: one that any frame holds after it some frame held before
   pub none-thawed : {n′ : ℕ} {fs′ : List Frame} {rs′ : List Cell} {st′ : List Entry} → Safe t ix (moment (state (frame id p i ops ls ∷ fs) rs st n) row (next (state fs′ rs′ st′ n′)))

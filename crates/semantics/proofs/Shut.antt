@@ -86,7 +86,7 @@ module _ (t : List ℕ) (ix : Index) (row id p i : ℕ) (ops : List Value) (ls :
   not-stuck e s = ready-of s .moves e
 
   comes : {o : Outcome} → SafeOutcome t ix row id p i ops ls fs rs st n o → o ≡ stuck → ⊥
-  comes (goes a b c d) e = clash (cc)
+  comes (goes u a b c d g) e = clash (cc)
   comes (returnsLast a b c) e = clash (cc)
   comes (stops f) e = clash (cc)
 

@@ -28,7 +28,7 @@ module _ (t : List ℕ) (ix : Index) (rs : List Cell) (st : List Entry) (n : ℕ
   Stopped = Safe t ix (ended (base rs st n) last row (stopped k) (base rs′ st′ n′))
 
   restored-of : Stopped → Restored t ix (base rs st n) (base rs′ st′ n′)
-  restored-of (ends (restores r) l) = r
+  restored-of (ends (restores c r) l) = r
 
   -- it keeps a changed number
   pub not-kept-number : (c y j : ℕ) → NumberIn rs c y j 500 → NumberIn rs′ c y j 1 → Stopped → ⊥
@@ -103,9 +103,9 @@ module _ (t : List ℕ) (ix : Index) (before : Base) (last : State) (row : ℕ) 
   not-too-many l (ends (finishes a b) q) = omega (arith, b, l)
 
   -- a call ends in no other way than done or stopped
-  over : {o : Outcome} {after : Base} → SafeEnd t ix before o after → (o ≡ stuck) ⊎ ((s : State) × (o ≡ next s)) → ⊥
+  over : {last : State} {row : ℕ} {o : Outcome} {after : Base} → SafeEnd t ix before last row o after → (o ≡ stuck) ⊎ ((s : State) × (o ≡ next s)) → ⊥
   over (finishes a b) e = ⊎-elim (λ q. clash (cc (q))) (λ q. clash (cc (q .1))) e
-  over (restores r) e = ⊎-elim (λ q. clash (cc (q))) (λ q. clash (cc (q .1))) e
+  over (restores c r) e = ⊎-elim (λ q. clash (cc (q))) (λ q. clash (cc (q .1))) e
 
   pub not-ended-else : {o : Outcome} {after : Base} → (o ≡ stuck) ⊎ ((s : State) × (o ≡ next s)) → Safe t ix (ended before last row o after) → ⊥
   not-ended-else e (ends d l) = over d e

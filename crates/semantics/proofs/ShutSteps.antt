@@ -27,16 +27,16 @@ module _ (t : List ℕ) (ix : Index) (row id p i : ℕ) (ops : List Value) (ls :
   Done = Safe t ix (moment (state (frame id p i ops ls ∷ fs) rs st n) row (next (state fs′ rs′ st′ n′)))
 
   proper-of : Done → Proper t row ops rs st rs′ st′
-  proper-of (safe s (goes a b c d)) = a
+  proper-of (safe s (goes u a b c d g)) = a
 
   handed-of : Done → Handed t ix row id p i ops ls fs n fs′ n′
-  handed-of (safe s (goes a b c d)) = b
+  handed-of (safe s (goes u a b c d g)) = b
 
   origin-of : Done → Origin t ix row id p i ops ls fs rs st fs′
-  origin-of (safe s (goes a b c d)) = c
+  origin-of (safe s (goes u a b c d g)) = c
 
   freezes-of : Done → Freezes t ix row id p i ops ls fs rs st fs′ rs′ st′
-  freezes-of (safe s (goes a b c d)) = d
+  freezes-of (safe s (goes u a b c d g)) = d
 
   -- CLAUSE 5, `Freezes`: Freeze leaves the reference writable, or does something else besides; it takes what is read-only already
   pub not-left-writable : {gs : List Frame} {j : ℕ} {r : Ref} {rest : List Value} {ls′ : List (Option Value)} → rowAt t row .a ≡ opFreeze → fs′ ≡ frame id p j (refer true r ∷ rest) ls′ ∷ gs → Done → ⊥

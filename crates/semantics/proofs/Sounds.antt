@@ -3,7 +3,7 @@ use Prim.Native.Nat.{ℕ, zero, suc, _+_, _<_, _≤_}
 use mathlib.Core.Path.{_≡_, refl, ap, sym, _∙_}
 use mathlib.Core.List.{List, [], _∷_, _++_, List·Memᴰ·head, List·Memᴰ·tail, List·Memᴰ·cases-cons, List·Memᴰ·not-nil}
 use mathlib.Core.Bool.{Bool, true, false, cond, _&&_}
-use mathlib.Core.Option.{some}
+use mathlib.Core.Option.{Option, none, some}
 use mathlib.Core.Logic.{_⊎_, inl, inr, ⊎-elim, _≢_}
 use native.Mathlib.Omega.{arith}
 use lib.ListN.{length, set, getElem? as nth}
@@ -11,10 +11,11 @@ use lib.Dec.{eqb}
 use borrow.Author.Tests.{eqb-true, eq-eqb}
 use Rattle.table.specs.Format.{opWriteRef, opPack, opUnpack, opMoveTo, opMoveFrom}
 use Rattle.reach.specs.Reach.{Mem}
-use Rattle.semantics.specs.Machine.{toField, Value, num, obj, refer, Cell, gone, here, Entry, entry, dropKey}
+use Rattle.semantics.specs.Machine.{toField, Value, num, obj, refer, Cell, gone, here, Entry, entry, findKey, dropKey}
 use Rattle.semantics.specs.Step.{pushedOn}
-use Rattle.semantics.specs.Words.{Exists, NumberIn}
-use Rattle.semantics.proofs.Changes.{clash, keyCount, Change, same, wrote, packed, unpacked, published, withdrew}
+use Rattle.semantics.specs.Words.{Exists, NumberIn, IsEntry}
+use Rattle.semantics.specs.Stops.{NoEntry}
+use Rattle.semantics.proofs.Changes.{clash, keyCount, free, Change, same, wrote, packed, unpacked, published, withdrew}
 
 module _ {A : Type 0} where
   pub nth-set : (h : List A) (a id : ℕ) (c d : A) → nth (set h a c) id ≡ some d → ((id ≡ a) × (c ≡ d)) ⊎ (nth h id ≡ some d)
@@ -103,6 +104,27 @@ key-once y a c c′ (entry y′ a′ id ∷ st) l m n =
     (λ e. ⊎-elim (λ d. cc (e, d)) (λ r. absurd (omega (arith, key-here y a c y′ a′ id e, key-counted y a c′ st r, l))) (List·Memᴰ·cases-cons n))
     (λ q. ⊎-elim (λ d. absurd (omega (arith, key-here y a c′ y′ a′ id d, key-counted y a c st q, l))) (λ r. key-once y a c c′ st (omega (arith, l)) q r) (List·Memᴰ·cases-cons n))
     (List·Memᴰ·cases-cons m)
+
+-- what is under a key: the record that is found, or none
+pub found-there : (st : List Entry) (y a c : ℕ) → findKey st y a ≡ some c → IsEntry st y a c
+found-there [] y a c e = absurd (clash (cc))
+found-there (entry y′ a′ id ∷ st) y a c e = go (eqb y′ y) (eqb a′ a) refl refl e (found-there st y a c)
+  where
+    go : (b d : Bool) → eqb y′ y ≡ b → eqb a′ a ≡ d → cond (b && d) (some id) (findKey st y a) ≡ some c → (findKey st y a ≡ some c → IsEntry st y a c) → IsEntry (entry y′ a′ id ∷ st) y a c
+    go true true p q u ih = let z : id ≡ c = cc in let w : entry y a c ≡ entry y′ a′ id = cc (eqb-true y′ y p, eqb-true a′ a q, z) in List·Memᴰ·head w
+    go true false p q u ih = List·Memᴰ·tail (ih u)
+    go false true p q u ih = List·Memᴰ·tail (ih u)
+    go false false p q u ih = List·Memᴰ·tail (ih u)
+
+pub none-found : (st : List Entry) (y a : ℕ) → findKey st y a ≡ none → NoEntry st y a
+none-found st y a e id m = omega (arith, free y a st e, key-counted y a id st m)
+
+pub find-none : (st : List Entry) (y a : ℕ) → NoEntry st y a → findKey st y a ≡ none
+find-none st y a f = go (findKey st y a) refl
+  where
+    go : (o : Option ℕ) → findKey st y a ≡ o → o ≡ none
+    go none e = refl
+    go (some c) e = absurd (f c (found-there st y a c e))
 
 module _ {decl : ℕ → ℕ} {m op o : ℕ} {ops : List Value} {h h′ : List Cell} {st st′ : List Entry} where
   -- a number that differs was written

@@ -2,14 +2,13 @@
 use Prim.Native.Nat.{ℕ, _<_}
 use mathlib.Core.Path.{_≡_, refl, ap, sym, _∙_}
 use mathlib.Core.List.{List, [], _∷_, map}
-use mathlib.Core.Bool.{Bool, true, false, cond}
+use mathlib.Core.Bool.{Bool, true}
 use mathlib.Core.Option.{Option}
 use mathlib.Core.Logic.{_⊎_, inl, inr}
 use native.Mathlib.Omega.{arith}
 use lib.ListN.{length}
-use Rattle.table.specs.Format.{pastOpcodes, opWriteRef, opFreeze}
+use Rattle.table.specs.Format.{pastOpcodes, opWriteRef, opOp, opFreeze}
 use Rattle.laws.proofs.Cases.{_▸_, below-each}
-use Rattle.table.specs.declared.index.Index.{Index}
 use Rattle.table.specs.Index.{indexOf}
 use Rattle.declarations.specs.Program.{number, numberRef, isWritable, procedureIn, instructionIn}
 use Rattle.effects.specs.Kinds.{good, topOf}
@@ -18,19 +17,19 @@ use Rattle.operands.specs.Operands.{kindsBefore}
 use Rattle.operands.specs.Flow.{onto, effectIn}
 use Rattle.flow.specs.Walks.{pushedOn as marksOn}
 use Rattle.acceptance.specs.Judged.{Instruction, Judged}
-use Rattle.semantics.specs.Machine.{Ref, refKind, Value, num, obj, refer, valueKind, Cell, Entry, Frame, frame, State, state, Outcome, next, stopped, stuck}
-use Rattle.semantics.specs.Step.{Taken, missing, took, taken, withTaken, one, withReference, actions, topKind, instruction, effectAt, act, step}
+use Rattle.semantics.specs.Machine.{Ref, refKind, Value, num, refer, valueKind, Cell, Entry, Frame, frame, State, state, Outcome, stuck}
+use Rattle.semantics.specs.Step.{pushedOn, took, taken, topKind, instruction, effectAt, act, step}
 use Rattle.semantics.specs.Ownership.{inValues}
 use Rattle.semantics.proofs.Indexed.{moduleIn, declarerIn}
 use Rattle.semantics.specs.Claim.{Owned}
 use Rattle.semantics.proofs.Counts.{held-rev}
-use Rattle.semantics.proofs.Changes.{clash, Change}
+use Rattle.semantics.proofs.Changes.{Change}
 use Rattle.semantics.proofs.Sorts.{number-writable, is-writable}
 use Rattle.semantics.proofs.Typing.{has-kinds, Took, take-off}
-use Rattle.semantics.proofs.Places.{top-refers}
+use Rattle.semantics.proofs.Places.{as-number, top-refers}
 use Rattle.semantics.proofs.Frames.{FrameOk, Suspended, Stack, runs, Inv}
 use Rattle.semantics.proofs.Instructions.{effect-at}
-use Rattle.semantics.proofs.Running.{OutcomeOk, Running}
+use Rattle.semantics.proofs.Running.{OutcomeOk, Running, two-taken}
 use Rattle.semantics.proofs.Cases.{Case, ok-pop, ok-load, ok-mv, ok-cp, ok-st, ok-borrow, ok-read, ok-write, ok-field, ok-pack, ok-unpack, ok-to, ok-from, ok-global, ok-exists, ok-call, ok-ret, ok-branch, ok-cond, ok-op, ok-freeze}
 
 -- all opcodes
@@ -53,27 +52,6 @@ top-is : (ops : List Value) → topKind ops ≡ topOf (good (map valueKind ops))
 unfolding topOf
 top-is [] = refl
 top-is (v ∷ ops) = refl
-
--- Freeze stops at nothing
-module _ (t : List ℕ) (ix : Index) (id p i : ℕ) (ops : List Value) (ls : List (Option Value)) (fs : List Frame) (rs : List Cell) (st : List Entry) (n : ℕ) where
-  pub freeze-runs : instruction t ix p i .a ≡ opFreeze → (k : ℕ) → step t ix (state (frame id p i ops ls ∷ fs) rs st n) ≡ stopped k → ⊥
-  unfolding act actions
-  freeze-runs e k q = go (effectAt t ix p i ops .fit) (taken (effectAt t ix p i ops .takes) ops) _ (rw e at q)
-    where
-      held : (v : Value) (o : Ref → State) → withReference v (λ (r : Ref). next (o r)) ≡ stopped k → ⊥
-      held (num x) o z = clash (cc)
-      held (obj a y) o z = clash (cc)
-      held (refer w r) o z = clash (cc)
-
-      only : (vs : List Value) (o : Ref → State) → one vs (λ (v : Value). withReference v (λ (r : Ref). next (o r))) ≡ stopped k → ⊥
-      only [] o z = clash (cc)
-      only (v ∷ []) o z = held v o z
-      only (v ∷ w ∷ vs) o z = clash (cc)
-
-      go : (c : Bool) (x : Taken) (o : List Value → Ref → State) → cond c (withTaken x λ (vs rest : List Value). one vs (λ (v : Value). withReference v (λ (r : Ref). next (o rest r)))) stuck ≡ stopped k → ⊥
-      go true missing o z = clash (cc)
-      go true (took vs rest) o z = only vs (o rest) z
-      go false x o z = clash (cc)
 
 -- what holds of a state
 abbrev pub StateOk : List ℕ → State → Type 0
@@ -123,6 +101,17 @@ module _ (t : List ℕ) (judged : Judged t (indexOf t)) where
         let fit = sym (ap (λ (y : Effect). y .fit) x) ∙ instr .flow .fit in
         let a = top-refers (instr .flow .top) (instr .flow .rest) (is-writable (instr .flow .top) fit) (f .has) (kinds-are ∙ ap (λ (y : Effect). onto (y .takes) (instr .flow .rest)) x) in
         (a .0, a .1, a .2, ap isWritable (a .3) ∙ fit)
+
+    -- Op finds two numbers
+    pub op-finds : instructionIn t (indexOf t) p i .a ≡ opOp → (x y : ℕ) × (under : List Value) × (ops ≡ num y ∷ num x ∷ under)
+    unfolding effects
+    op-finds e =
+        let ks : effect .takes ≡ number ∷ number ∷ [] = ap (λ (y : Effect). y .takes) (effect-at t (indexOf t) (procedureIn (indexOf t) p) i opOp (instr .flow .top) e) in
+        let q = two-taken (rw ks at (takes-off .has)) in
+        let x = as-number (q .5) refl in
+        let y = as-number (q .6) refl in
+        let vs : takes-off .vs ≡ num (x .0) ∷ num (y .0) ∷ [] = q .4 ∙ cc (x .1, y .1) in
+        (x .0, y .0, takes-off .under, takes-off .stack ∙ ap (λ (l : List Value). pushedOn l (takes-off .under)) vs)
 
     pub writes-through : (instructionIn t (indexOf t) p i .a ≡ opWriteRef) ⊎ (instructionIn t (indexOf t) p i .a ≡ opFreeze) → (w : Bool) (r : Ref) (rest : List Value) → ops ≡ refer w r ∷ rest → w ≡ true
     writes-through (inl e) w r rest q = let a = write-finds e .2 in cc (a, q)

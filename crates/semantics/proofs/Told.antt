@@ -32,6 +32,7 @@ use Rattle.semantics.proofs.Every.{chained}
 use Rattle.semantics.proofs.Callable.{list-rows, good-calls}
 use Rattle.semantics.proofs.Owning.{cell-here, nested, plain, entries-typed}
 use Rattle.semantics.proofs.Outcomes.{stops}
+use Rattle.semantics.proofs.Stops.{cause-few}
 use Rattle.semantics.proofs.Handing.{all-in, all-out}
 use Rattle.semantics.proofs.Invariant.{BaseOk, MomentOk, EndOk, EventOk, HandedAt, handed-at, outcome-ok, chain-ok, nothing-ok}
 use Rattle.semantics.proofs.Decimal.{decimal-said}
@@ -115,7 +116,7 @@ module _ (t : List ℕ) (J : Judged t (indexOf t)) where
   -- the number of a stop has 64 bits
   stop-few : (s : State) (k : ℕ) → HandedAt t J s (stopped k) → k < pastNumbers
   stop-few (state [] h st n) k q = absurd q
-  stop-few (state (frame id p i ops ls ∷ fs) h st n) k (stops j l) = l
+  stop-few (state (frame id p i ops ls ∷ fs) h st n) k (stops c) = cause-few c
 
   ends-as : (before : Base) (s : State) (row : ℕ) (o : Outcome) (after : Base) → EndOk t J before s row o after → EndsAs row o
   ends-as before s row o after m = go o (m .over) (outcome-ok t J s row o (m .last)) (m .last)

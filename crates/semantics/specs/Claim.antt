@@ -7,20 +7,22 @@ use mathlib.Core.Logic.{_≢_, _⊎_}
 use mathlib.Core.Option.{Option, some}
 use lib.ListN.{length, set, getElem? as nth}
 use Rattle.table.specs.declared.index.Index.{Index}
-use Rattle.table.specs.Format.{instructionKind, maxResults, opWriteRef, opBorrowLoc, opBorrowFld, opBorrowGlobal, opCall, opRet, opPack, opUnpack, opMoveTo, opMoveFrom, opFreeze}
+use Rattle.table.specs.Format.{instructionKind, maxResults, opWriteRef, opBorrowLoc, opBorrowFld, opBorrowGlobal, opCall, opRet, opPack, opUnpack, opMoveTo, opMoveFrom, opOp, opFreeze}
 use Rattle.table.specs.Rows.{rowAt, kindAt}
 use Rattle.table.specs.Index.{ownerAt}
 use Rattle.declarations.specs.Program.{number, isReference, procedureIn, localKind, localCount}
 use Rattle.effects.specs.Kinds.{good}
 use Rattle.operands.specs.Operands.{kindsBefore}
 use Rattle.reach.specs.Reach.{Mem}
-use Rattle.arithmetic.specs.Arithmetic.{pastNumbers}
+use Rattle.arithmetic.specs.declared.Calculated.the-variants.{Value as Gives}
+use Rattle.arithmetic.specs.Arithmetic.{pastNumbers, calculation}
 use Rattle.semantics.specs.Machine.{Ref, toLocal, toField, toRecord, Value, valueKind, writable, num, obj, refer, putLocal, findKey, Cell, here, Entry, Frame, frame, State, state, Outcome, next, finished, stopped, stuck, aRecord, target}
 use Rattle.semantics.specs.Limits.{budgetSpent}
 use Rattle.semantics.specs.Step.{pushedOn, startLocals, took, taken, instruction, effectAt, step}
 use Rattle.semantics.specs.History.{Base, base, Event, moment, ended}
 use Rattle.semantics.specs.Ownership.{inFrames, inRecords, inStore, livesAt}
 use Rattle.semantics.specs.Words.{typeCount, procedureCount, moduleOf, declarer, inGuest, guest, guardedField, kindsIn, bodyOf, instructionRow, GuardedReference, Holds, Exists, Existed, NumberIn, IsEntry, InStore}
+use Rattle.semantics.specs.Stops.{Cause}
 
 -- something holds of every element of a list
 pub data All {A : Type 0} (Q : A → Type 0) : List A → Type 0 where
@@ -213,22 +215,37 @@ module _ (t : List ℕ) where
     Freezes row id p i ops ls fs rs st fs′ rs′ st′ =
         rowAt t row .a ≡ opFreeze → (r : Ref) × (under : List Value) × (ops ≡ refer true r ∷ under) × (fs′ ≡ frame id p (i + 1) (refer false r ∷ under) ls ∷ fs) × (rs′ ≡ rs) × (st′ ≡ st)
 
-    -- what comes of it: a step; the Ret of the first frame, with exactly what it takes; or a stop, of Freeze by the budget alone
+    -- Op takes two numbers, the second on top, and pushes what its operation gives of them; nothing else differs
+    abbrev pub Calculates : (row id p i : ℕ) → List Value → List (Option Value) → List Frame → List Cell → List Entry → List Frame → List Cell → List Entry → Type 0
+    Calculates row id p i ops ls fs rs st fs′ rs′ st′ =
+        rowAt t row .a ≡ opOp → (x y z : ℕ) × (under : List Value) × (ops ≡ num y ∷ num x ∷ under) × (calculation (rowAt t row .b) x y ≡ Gives z) × (fs′ ≡ frame id p (i + 1) (num z ∷ under) ls ∷ fs) × (rs′ ≡ rs) × (st′ ≡ st)
+
+    -- 7. The instruction of a row has no cause to stop
+    abbrev pub Unhindered : (row : ℕ) → List Value → List Frame → List Cell → List Entry → Type 0
+    Unhindered row ops fs rs st = (k : ℕ) → ¬ (Cause t row ops fs rs st k)
+
+    -- stop k, at a row: the budget is spent, or the instruction has this cause to stop
+    abbrev pub StopsAt : (row : ℕ) → State → ℕ → Type 0
+    StopsAt row (state [] rs st n) k = ⊥
+    StopsAt row (state (frame id p i ops ls ∷ fs) rs st n) k = (k ≡ budgetSpent) ⊎ Cause t row ops (frame id p i ops ls ∷ fs) rs st k
+
+    -- what comes of it: a step, which nothing hinders; the Ret of the first frame, with exactly what it takes; or a stop, for its cause
     pub data SafeOutcome (row id p i : ℕ) (ops : List Value) (ls : List (Option Value)) (fs : List Frame) (rs : List Cell) (st : List Entry) (n : ℕ) : Outcome → Type 0 where
-      goes : {fs′ : List Frame} {rs′ : List Cell} {st′ : List Entry} {n′ : ℕ} → Proper row ops rs st rs′ st′ → Handed row id p i ops ls fs n fs′ n′ → Origin row id p i ops ls fs rs st fs′ → Freezes row id p i ops ls fs rs st fs′ rs′ st′
+      goes : {fs′ : List Frame} {rs′ : List Cell} {st′ : List Entry} {n′ : ℕ} → Unhindered row ops (frame id p i ops ls ∷ fs) rs st → Proper row ops rs st rs′ st′ → Handed row id p i ops ls fs n fs′ n′
+          → Origin row id p i ops ls fs rs st fs′ → Freezes row id p i ops ls fs rs st fs′ rs′ st′ → Calculates row id p i ops ls fs rs st fs′ rs′ st′
           → SafeOutcome row id p i ops ls fs rs st n (next (state fs′ rs′ st′ n′))
       returnsLast : {vs : List Value} → rowAt t row .a ≡ opRet → Takes p i ops vs [] → fs ≡ [] → SafeOutcome row id p i ops ls fs rs st n (finished vs (state [] rs st n))
-      stops : {k : ℕ} → (rowAt t row .a ≡ opFreeze → k ≡ budgetSpent) → SafeOutcome row id p i ops ls fs rs st n (stopped k)
+      stops : {k : ℕ} → StopsAt row (state (frame id p i ops ls ∷ fs) rs st n) k → SafeOutcome row id p i ops ls fs rs st n (stopped k)
 
     -- 5. A stopped call leaves the store of its beginning: the same entries, and the same records with the same fields; no other record exists
     abbrev pub Restored : Base → Base → Type 0
     Restored (base rs st n) (base rs′ st′ n′) =
         (st′ ≡ st) × ((id : ℕ) (c : Cell) → nth rs id ≡ some c → nth rs′ id ≡ some c) × ((id y : ℕ) → length rs ≤ id → ¬ (Exists rs′ id y))
 
-    -- how a call ends: finished, with at most four numbers, it leaves what its last step left
-    pub data SafeEnd (before : Base) : Outcome → Base → Type 0 where
-      finishes : {vs : List Value} {rs : List Cell} {st : List Entry} {n : ℕ} → All IsNumber vs → length vs ≤ maxResults → SafeEnd before (finished vs (state [] rs st n)) (base rs st n)
-      restores : {k : ℕ} {after : Base} → Restored before after → SafeEnd before (stopped k) after
+    -- how a call ends, with a last state and row: finished, with at most four numbers, it leaves what its last step left; or it stopped there
+    pub data SafeEnd (before : Base) (last : State) (row : ℕ) : Outcome → Base → Type 0 where
+      finishes : {vs : List Value} {rs : List Cell} {st : List Entry} {n : ℕ} → All IsNumber vs → length vs ≤ maxResults → SafeEnd before last row (finished vs (state [] rs st n)) (base rs st n)
+      restores : {k : ℕ} {after : Base} → StopsAt row last k → Restored before after → SafeEnd before last row (stopped k) after
 
     -- no identity of the call is used again; between calls every record that exists is reached from the store
     pub record Between (rs : List Cell) (st : List Entry) : Type 0 where
@@ -241,4 +258,4 @@ module _ (t : List ℕ) where
     pub data Safe : Event → Type 0 where
       safe : {row id p i : ℕ} {ops : List Value} {ls : List (Option Value)} {fs : List Frame} {rs : List Cell} {st : List Entry} {n : ℕ} {o : Outcome} → SafeState row id p i ops ls fs rs st n
           → SafeOutcome row id p i ops ls fs rs st n o → Safe (moment (state (frame id p i ops ls ∷ fs) rs st n) row o)
-      ends : {before : Base} {s : State} {row : ℕ} {o : Outcome} {after : Base} → SafeEnd before o after → Later s after → Safe (ended before s row o after)
+      ends : {before : Base} {s : State} {row : ℕ} {o : Outcome} {after : Base} → SafeEnd before s row o after → Later s after → Safe (ended before s row o after)

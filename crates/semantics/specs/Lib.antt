@@ -8,6 +8,7 @@ pub mod Text
 pub mod Run
 pub mod Ownership
 pub mod Words
+pub mod Stops
 pub mod Claim
 pub mod Chain
 pub mod Callable

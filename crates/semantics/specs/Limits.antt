@@ -11,13 +11,13 @@ maxRecords = 128
 abbrev pub maxEntries : ℕ
 maxEntries = 64
 
--- stops: the budget is spent; a sum above 64 bits or a difference below 0; the key is taken; no such key; a stale reference; a 17th frame; a 129th
--- live record; a 65th store entry
+-- stops: the budget is spent; a sum above 64 bits; the key is taken; no such key; a stale reference; a 17th frame; a 129th live record; a 65th store
+-- entry; a difference below zero (document 02, paper 4)
 abbrev pub budgetSpent : ℕ
 budgetSpent = 31
 
-abbrev pub outOfRange : ℕ
-outOfRange = 32
+abbrev pub tooLarge : ℕ
+tooLarge = 32
 
 abbrev pub keyTaken : ℕ
 keyTaken = 33
@@ -36,3 +36,6 @@ tooManyRecords = 37
 
 abbrev pub tooManyEntries : ℕ
 tooManyEntries = 38
+
+abbrev pub belowZero : ℕ
+belowZero = 39

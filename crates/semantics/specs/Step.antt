@@ -11,9 +11,9 @@ use Rattle.declarations.specs.Program.{number, isRecord, procedureIn, localCoun
 use Rattle.effects.specs.Effects.{Effect}
 use Rattle.operands.specs.Flow.{effectIn}
 use Rattle.arithmetic.specs.declared.Calculated.{Calculated}
-use Rattle.arithmetic.specs.declared.Calculated.the-variants.{Value as Gives, OutOfRange, Unknown}
+use Rattle.arithmetic.specs.declared.Calculated.the-variants.{Value as Gives, TooLarge, BelowZero, Unknown}
 use Rattle.arithmetic.specs.Arithmetic.{calculation}
-use Rattle.semantics.specs.Limits.{maxFrames, maxRecords, maxEntries, outOfRange, keyTaken, noSuchKey, staleReference, tooManyFrames, tooManyRecords, tooManyEntries}
+use Rattle.semantics.specs.Limits.{maxFrames, maxRecords, maxEntries, tooLarge, belowZero, keyTaken, noSuchKey, staleReference, tooManyFrames, tooManyRecords, tooManyEntries}
 use Rattle.semantics.specs.Machine.{Ref, toLocal, toField, toRecord, Value, num, obj, refer, valueKind, writable, Cell, gone, here, Entry, entry, Frame, frame, State, state, Outcome, next, finished, stopped, stuck, liveCount, findKey, dropKey, Target, aNumber, aRecord, stale, wrong, inCell, target, writeFrames, writeRecords}
 
 -- values pushed on operands, the first of the list first
@@ -162,7 +162,8 @@ module _ (b d kind others : ℕ) (vs : List Value) (id p i : ℕ) (ops : List Va
   -- what an operation gives is pushed, or it stops
   abbrev pub calculated : Calculated → Outcome
   calculated (Gives n) = push (num n ∷ [])
-  calculated OutOfRange = stopped outOfRange
+  calculated TooLarge = stopped tooLarge
+  calculated BelowZero = stopped belowZero
   calculated Unknown = stuck
 
   -- Pop takes an operand; LoadConst pushes the constant

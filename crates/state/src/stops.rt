@@ -1,4 +1,4 @@
-// Why a call ended: 0 while it runs. The stops of document 01 have their names in the rules (semantics/specs/Limits).
+// Why a call ended: 0 while it runs. The stops of documents 01 and 02 have their names in the rules (semantics/specs/Limits).
 
 // It is done, or it came to what no accepted table comes to.
 pub const DONE: u8 = 1;
@@ -8,7 +8,7 @@ pub const BROKEN: u8 = 99;
 // The stops.
 pub const BUDGET_SPENT: u8 = 31;
 
-pub const OUT_OF_RANGE: u8 = 32;
+pub const TOO_LARGE: u8 = 32;
 
 pub const KEY_TAKEN: u8 = 33;
 
@@ -21,3 +21,5 @@ pub const TOO_MANY_FRAMES: u8 = 36;
 pub const TOO_MANY_RECORDS: u8 = 37;
 
 pub const TOO_MANY_ENTRIES: u8 = 38;
+
+pub const BELOW_ZERO: u8 = 39;

@@ -10,8 +10,8 @@ use lib.Dec.{eqb, ltb, leb}
 use lib.ListN.{getD}
 use Rattle.laws.proofs.Cases.{_▸_, each}
 use Rattle.arithmetic.specs.declared.Calculated.{Calculated}
-use Rattle.arithmetic.specs.declared.Calculated.the-variants.{Value, OutOfRange, Unknown}
-use Rattle.semantics.specs.Limits.{outOfRange, staleReference, keyTaken, noSuchKey, tooManyFrames, tooManyRecords, tooManyEntries}
+use Rattle.arithmetic.specs.declared.Calculated.the-variants.{Value, TooLarge, BelowZero, Unknown}
+use Rattle.semantics.specs.Limits.{tooLarge, belowZero, staleReference, keyTaken, noSuchKey, tooManyFrames, tooManyRecords, tooManyEntries}
 use Rattle.state.specs.Entries.{addedIn}
 use Rattle.state.specs.declared.Operand.{Operand}
 use Rattle.state.specs.declared.Operand.the-variants.{Empty, Number, Record, Refer}
@@ -59,7 +59,8 @@ module _ (cs : List Operand) (s : State) where
 
   closes : {r : Bool} → (x : Calculated) → Shape cs s r (closed cs s x)
   closes (Value v) = calm refl refl refl refl
-  closes OutOfRange = stays outOfRange refl
+  closes TooLarge = stays tooLarge refl
+  closes BelowZero = stays belowZero refl
   closes Unknown = stays broken refl
 
   reads : {r : Bool} → (x : Target) → Shape cs s r (readAt cs s x)

@@ -16,7 +16,7 @@ const BANK: usize = 0;
 const USER: usize = 1;
 
 /// The procedures. Arguments are numbers where not said otherwise; `x` is a number that 1 is taken from at the
-/// end, so that 0 stops the call there.
+/// end, so that 0 stops the call there; `b` is taken from `a`.
 #[derive(Clone, Copy, Debug, PartialEq, Eq, PartialOrd, Ord)]
 #[repr(u16)]
 pub enum Id {
@@ -129,6 +129,40 @@ pub enum Id {
     DeepWriteStop,
     /// count, address, x
     FillStop,
+    /// b, a: the other way round than Subtract.
+    SubtractTurned,
+    /// Takes the highest number from 0.
+    ZeroLessMost,
+    /// Takes the highest number from itself.
+    MostLessMost,
+    /// Adds the highest number to itself.
+    MostAndMost,
+    /// address, value: takes the coin's first number from the value and writes what is left there.
+    TakeTurned,
+    /// address, value: takes only what is there; gives what it took.
+    TakeEnough,
+    /// address, more, less: adds and then subtracts.
+    Balance,
+    /// address, value, a, b: writes a coin's first number and its own local, then the difference.
+    WriteTake,
+    /// address, a, b: publishes a coin of both, then writes the difference into it.
+    PublishTake,
+    /// address, value: withdraws a coin, breaks it up, and publishes one that is smaller.
+    Repack,
+    /// address, value: breaks a crate up, publishes its box, and takes from the coin inside.
+    CrateTake,
+    /// value, reference: subtracts.
+    Deduct,
+    /// a, b: its own local is written by a called procedure.
+    DeductOwn,
+    /// count, address, a, b: frames of both modules in turn that write, the bank's into the coin and the user's into
+    /// their locals; the last one subtracts.
+    Dig,
+    Delve,
+    /// from, to, value: the user pays before it takes.
+    PayLate,
+    /// address, other, value: the user publishes a coin and a note, then has the coin made smaller.
+    Order,
     /// value: makes a coin and hands it out.
     Make,
     /// coin: breaks it up.
@@ -198,7 +232,7 @@ pub enum Id {
 }
 
 /// In the order of their numbers.
-pub const ALL: [Id; 97] = [
+pub const ALL: [Id; 114] = [
     Id::Mint,
     Id::Get,
     Id::Set,
@@ -256,6 +290,23 @@ pub const ALL: [Id; 97] = [
     Id::BoxStop,
     Id::DeepWriteStop,
     Id::FillStop,
+    Id::SubtractTurned,
+    Id::ZeroLessMost,
+    Id::MostLessMost,
+    Id::MostAndMost,
+    Id::TakeTurned,
+    Id::TakeEnough,
+    Id::Balance,
+    Id::WriteTake,
+    Id::PublishTake,
+    Id::Repack,
+    Id::CrateTake,
+    Id::Deduct,
+    Id::DeductOwn,
+    Id::Dig,
+    Id::Delve,
+    Id::PayLate,
+    Id::Order,
     Id::Make,
     Id::Break,
     Id::Value,
@@ -334,13 +385,16 @@ type Writer = fn(Id) -> ProcPlan;
 
 /// The procedure, with calls that name an `Id`.
 fn procedure(id: Id) -> ProcPlan {
-    let groups: [(Id, Writer); 9] = [
+    let groups: [(Id, Writer); 12] = [
         (Id::Uncrate, store_procedure),
         (Id::Hold9, many_records),
         (Id::Compare, plain),
         (Id::StaleMovedAway, record_references),
         (Id::WriteUp, local_references),
         (Id::FillStop, stopping),
+        (Id::Balance, subtracting),
+        (Id::CrateTake, subtracting_late),
+        (Id::Order, subtracting_below),
         (Id::NoteGet, handed_out),
         (Id::HandleFrozenCoin, read_only),
         (Id::EarlyRefilled, frozen_when_kept),
@@ -559,6 +613,87 @@ fn stopping(id: Id) -> ProcPlan {
         _ => {
             let code = join(&[&[mv(0), mv(1), to(Id::Fill)], &less_one(2), &[ret()]]);
             user(vec![N, N, N], vec![], vec![], code)
+        }
+    }
+}
+
+/// Differences, and sums, of arguments, of constants and of numbers in the store.
+fn subtracting(id: Id) -> ProcPlan {
+    let keep = [mv(0), global(COIN), field(COIN, 0), st(2)];
+    match id {
+        Id::SubtractTurned => user(vec![N, N], vec![], vec![N], vec![mv(1), mv(0), arith(SUB), ret()]),
+        Id::ZeroLessMost => user(vec![], vec![], vec![N], vec![load(0), load(u64::MAX), arith(SUB), ret()]),
+        Id::MostLessMost => bank(vec![], vec![], vec![N], vec![load(u64::MAX), load(u64::MAX), arith(SUB), ret()]),
+        Id::MostAndMost => bank(vec![], vec![], vec![N], vec![load(u64::MAX), load(u64::MAX), arith(ADD), ret()]),
+        Id::TakeTurned => {
+            let code = join(&[&keep, &[mv(1), cp(2), read(), arith(SUB), mv(2), write(), ret()]]);
+            bank(vec![N, N], vec![R], vec![], code)
+        }
+        Id::TakeEnough => {
+            let ask = [cp(2), read(), cp(1), arith(LESS), jump_if(17)];
+            let take = [cp(2), read(), cp(1), arith(SUB), mv(2), write(), mv(1), ret()];
+            bank(vec![N, N], vec![R], vec![N], join(&[&keep, &ask, &take, &[load(0), ret()]]))
+        }
+        _ => {
+            let keep = [mv(0), global(COIN), field(COIN, 0), st(3)];
+            let code = join(&[&keep, &[cp(3), read(), mv(1), arith(ADD), mv(2), arith(SUB), mv(3), write(), ret()]]);
+            bank(vec![N, N, N], vec![R], vec![], code)
+        }
+    }
+}
+
+/// Differences after writing, publishing, withdrawing and breaking up.
+fn subtracting_late(id: Id) -> ProcPlan {
+    match id {
+        Id::WriteTake => {
+            let stored = [cp(1), cp(0), global(COIN), field(COIN, 0), write()];
+            let own = [load(8), st(4), borrow(4), st(5), cp(1), cp(5), write()];
+            let take = [mv(2), mv(3), arith(SUB), mv(0), global(COIN), field(COIN, 1), write(), mv(4), ret()];
+            bank(vec![N; 4], vec![N, R], vec![N], join(&[&stored, &own, &take]))
+        }
+        Id::PublishTake => {
+            let publish = [cp(1), cp(2), pack(COIN), cp(0), move_to(COIN)];
+            let take = [mv(1), mv(2), arith(SUB), mv(0), global(COIN), field(COIN, 1), write(), ret()];
+            bank(vec![N; 3], vec![], vec![], join(&[&publish, &take]))
+        }
+        Id::Repack => {
+            let take = [cp(0), move_from(COIN), unpack(COIN), st(2), mv(1), arith(SUB)];
+            bank(vec![N, N], vec![N], vec![], join(&[&take, &[mv(2), pack(COIN), mv(0), move_to(COIN), ret()]]))
+        }
+        _ => {
+            let apart = join(&[&[cp(0), move_from(CRATE), unpack(CRATE)], &BREAK, &[cp(0), move_to(BOX)]]);
+            let keep = [mv(0), global(BOX), field(BOX, 0), field(COIN, 0), st(2)];
+            let take = [cp(2), read(), mv(1), arith(SUB), mv(2), write(), ret()];
+            bank(vec![N, N], vec![R], vec![], join(&[&apart, &keep, &take]))
+        }
+    }
+}
+
+/// Differences in called frames.
+fn subtracting_below(id: Id) -> ProcPlan {
+    match id {
+        Id::Deduct => user(vec![N, R], vec![], vec![], vec![cp(1), read(), mv(0), arith(SUB), mv(1), write(), ret()]),
+        Id::DeductOwn => user(vec![N, N], vec![], vec![N], vec![mv(1), borrow(0), to(Id::Deduct), mv(0), ret()]),
+        Id::Dig => {
+            let note = [cp(0), cp(1), global(COIN), field(COIN, 1), write(), cp(0), jump_if(15)];
+            let take = [mv(2), mv(3), arith(SUB), mv(1), global(COIN), field(COIN, 0), write(), ret()];
+            let down = [mv(0), load(1), arith(SUB), mv(1), mv(2), mv(3), to(Id::Delve), ret()];
+            bank(vec![N; 4], vec![], vec![], join(&[&note, &take, &down]))
+        }
+        Id::Delve => {
+            let ask = [borrow(0), st(4), cp(4), read(), jump_if(10)];
+            let take = [mv(2), mv(3), arith(SUB), pop(), ret()];
+            let count = [cp(4), read(), load(1), arith(SUB), mv(4), write()];
+            let down = [mv(0), mv(1), mv(2), mv(3), to(Id::Dig), ret()];
+            user(vec![N; 4], vec![R], vec![], join(&[&ask, &take, &count, &down]))
+        }
+        Id::PayLate => {
+            let code = vec![mv(1), cp(2), to(Id::Bump), mv(0), mv(2), to(Id::Take), ret()];
+            user(vec![N, N, N], vec![], vec![], code)
+        }
+        _ => {
+            let publish = [cp(1), cp(2), to(Id::Mint), mv(1), cp(2), to(Id::PutNote)];
+            user(vec![N, N, N], vec![], vec![], join(&[&publish, &[mv(0), mv(2), to(Id::Repack), ret()]]))
         }
     }
 }

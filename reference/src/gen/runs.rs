@@ -5,9 +5,10 @@ use super::kit::{Id, Kit, ALL};
 use super::plan::{argument_row, asm::call, call_row, Plan, ProcPlan};
 use super::rng::Rng;
 use super::tables;
-use crate::machine::{Machine, Outcome, Stop, Watch};
+use crate::machine::{Machine, Outcome, Watch};
 use crate::program::{Instr, Program, Sort};
 use crate::row::{limit, write_rows, Row};
+use crate::stop::{Stop, STOPS};
 
 #[derive(Clone, Debug)]
 pub struct Case {
@@ -23,11 +24,11 @@ pub fn case(seed: u64, number: u64) -> Case {
     let mut rng = Rng::stream(seed, 2, number);
     let rng = &mut rng;
     let mut text_len = limit::TEXT_BYTES + if rng.chance(5) { rng.below(5_000) } else { 0 };
-    let (table, list) = match rng.below(128) {
+    let (table, list) = match rng.below(142) {
         0..=18 => random_run(rng),
         19..=25 => tangled_run(rng),
         26..=58 => {
-            let stop = rng.within(31, 38) as u32;
+            let (stop, _) = rng.pick(&STOPS);
             let script = script(rng, stop);
             kit_run(rng, &script)
         }
@@ -54,6 +55,10 @@ pub fn case(seed: u64, number: u64) -> Case {
         }
         102 => (tables::accepted(rng), Vec::new()),
         103 | 104 => longest_list(rng),
+        105..=116 => {
+            let script = till_script(rng);
+            kit_run(rng, &script)
+        }
         _ => key_run(rng),
     };
     Case { table, list, text_len }
@@ -66,25 +71,35 @@ fn some_bytes(rng: &mut Rng) -> Vec<u8> {
 
 // Budgets.
 
-/// How many instructions were done each time that a Freeze came up.
+/// How many instructions were done each time that a Freeze came up, and each time that an Op did.
 #[derive(Default)]
-struct Freezes {
+struct Moments {
     looked: u32,
-    before: Vec<u32>,
+    freezes: Vec<u32>,
+    ops: Vec<u32>,
 }
 
-impl Freezes {
+impl Moments {
     /// A budget that is spent just before a Freeze, now and then just after it.
-    fn some_budget(&self, rng: &mut Rng) -> Option<u32> {
+    fn freeze_budget(&self, rng: &mut Rng) -> Option<u32> {
         let late = u32::from(rng.chance(25));
-        (!self.before.is_empty()).then(|| rng.pick(&self.before) + late)
+        (!self.freezes.is_empty()).then(|| rng.pick(&self.freezes) + late)
+    }
+
+    /// The same for an Op, mostly the last one: if an Op stops the call, it is that one.
+    fn op_budget(&self, rng: &mut Rng) -> Option<u32> {
+        let late = u32::from(rng.chance(25));
+        let last = *self.ops.last()?;
+        Some(late + if rng.chance(60) { last } else { rng.pick(&self.ops) })
     }
 }
 
-impl Watch for Freezes {
+impl Watch for Moments {
     fn comes_up(&mut self, machine: &Machine) {
-        if machine.upcoming() == Instr::Freeze {
-            self.before.push(self.looked);
+        match machine.upcoming() {
+            Instr::Freeze => self.freezes.push(self.looked),
+            Instr::Op(_) => self.ops.push(self.looked),
+            _ => {}
         }
         self.looked += 1;
     }
@@ -92,7 +107,7 @@ impl Watch for Freezes {
 
 #[derive(Clone, Copy, PartialEq, Eq)]
 enum Budgets {
-    /// Ample, just enough, one less, one more, spent at a Freeze, or small.
+    /// Ample, just enough, one less, one more, spent at a Freeze or at an Op, or small.
     Any,
     /// Ample, just enough, or one more.
     Enough,
@@ -105,21 +120,22 @@ fn list_of(rng: &mut Rng, program: &Program, calls: &[(u16, Vec<u64>)], budgets:
     let mut rows = Vec::new();
     for (procedure, arguments) in calls {
         let number = usize::from(*procedure);
-        let mut freezes = Freezes::default();
-        let (outcome, done) = machine.clone().call_watched(number, arguments, limit::BUDGET, &mut freezes);
+        let mut moments = Moments::default();
+        let (outcome, done) = machine.clone().call_watched(number, arguments, limit::BUDGET, &mut moments);
         let needed = match outcome {
             Outcome::Done(_) => done,
             Outcome::Stopped { stop: Stop::Budget, .. } => rng.within(1, 500) as u32,
             // The stopping instruction must come up with budget left.
             Outcome::Stopped { .. } => done + 1,
         };
-        let kinds = if budgets == Budgets::Enough { 17 } else { 22 };
+        let kinds = if budgets == Budgets::Enough { 17 } else { 24 };
         let budget = match rng.below(kinds) {
             0..=10 => limit::BUDGET,
             11..=14 => needed,
             15 | 16 => needed + 1,
             17 | 18 => needed.saturating_sub(1),
-            19 | 20 => freezes.some_budget(rng).unwrap_or(limit::BUDGET),
+            19 | 20 => moments.freeze_budget(rng).unwrap_or(limit::BUDGET),
+            21 | 22 => moments.op_budget(rng).unwrap_or(limit::BUDGET),
             _ => 1 + rng.below(12) as u32,
         };
         let budget = budget.clamp(1, limit::BUDGET);
@@ -208,45 +224,50 @@ fn address(rng: &mut Rng) -> u64 {
 }
 
 /// Calls that bring the stop, with others around them.
-fn script(rng: &mut Rng, stop: u32) -> Script {
+fn script(rng: &mut Rng, stop: Stop) -> Script {
     let mut calls = Script::new();
     for _ in 0..rng.below(4) {
         calls.push((Id::Mint, vec![address(rng), some_number(rng)]));
     }
     let at = address(rng);
     match stop {
-        31 => {
+        Stop::Budget => {
             let rounds = rng.below(40) as u64;
             calls.push(if rng.chance(50) { (Id::Forever, vec![]) } else { (Id::Spin, vec![rounds]) });
             calls.push((Id::Set, vec![at, 5]));
         }
-        32 => calls.extend(arithmetic(rng)),
-        33 => {
+        Stop::TooLarge | Stop::BelowZero => {
+            calls.push((Id::Mint, vec![at, 500]));
+            for _ in 0..rng.within(1, 3) {
+                calls.extend(if stop == Stop::TooLarge { adding(rng, at) } else { taking(rng, at) });
+            }
+        }
+        Stop::KeyTaken => {
             let other = rng.pick(&[Id::Mint, Id::MakeCrate]);
             calls.push((other, vec![at, 3]));
             calls.push((other, vec![at, 4]));
             calls.push((Id::Shift, vec![at, address(rng)]));
         }
-        34 => {
+        Stop::NoSuchKey => {
             let missing = at + 10;
             let one = [Id::Get, Id::Burn, Id::Has, Id::BoxGet, Id::Unbox, Id::NoteGet, Id::Uncrate];
             calls.push((rng.pick(&one), vec![missing]));
             calls.push((rng.pick(&one), vec![at]));
             calls.push((Id::Shift, vec![missing, at]));
         }
-        35 => {
+        Stop::Stale => {
             for _ in 0..rng.within(1, 3) {
                 let id = if rng.chance(45) { rng.pick(&STALE_FROZEN) } else { rng.pick(&STALE) };
                 calls.push((Id::Mint, vec![at, 6]));
                 calls.push((id, vec![at]));
             }
         }
-        36 => {
+        Stop::Frames => {
             let id = rng.pick(&[Id::Deep, Id::Ping, Id::Deep, Id::Hold8]);
             calls.push((id, vec![rng.within(14, 17) as u64]));
         }
-        37 => calls.extend(many_records(rng)),
-        _ => calls.extend(many_entries(rng)),
+        Stop::Records => calls.extend(many_records(rng)),
+        Stop::Entries => calls.extend(many_entries(rng)),
     }
     for _ in 0..rng.below(3) {
         let id = rng.pick(&[Id::Get, Id::Has, Id::Burn]);
@@ -303,16 +324,111 @@ const STALE_FROZEN: [Id; 21] = [
     Id::LateStaleEmpty,
 ];
 
-fn arithmetic(rng: &mut Rng) -> Script {
-    let mut calls = Script::new();
-    let near = [0, 1, u64::MAX, u64::MAX - 1, 1 << 63, (1 << 63) - 1];
-    for _ in 0..rng.within(1, 4) {
-        let id = rng.pick(&[Id::Add, Id::Subtract, Id::Compare]);
-        calls.push((id, vec![rng.pick(&near), rng.pick(&near)]));
+/// A number that is small, at an end or in the middle of 64 bits, or any.
+fn edge(rng: &mut Rng) -> u64 {
+    let near = [0, 1, 2, 255, 256, 500, (1 << 32) - 1, 1 << 32, (1 << 63) - 1, 1 << 63, u64::MAX - 1, u64::MAX];
+    if rng.chance(15) {
+        rng.draw()
+    } else {
+        rng.pick(&near)
     }
-    let id = rng.pick(&[Id::Bump, Id::Take]);
-    calls.push((id, vec![address(rng), rng.pick(&near)]));
+}
+
+/// Two numbers, mostly the first below the second by little or much, or equal, or above by 1.
+fn two_numbers(rng: &mut Rng) -> (u64, u64) {
+    let number = edge(rng).min(u64::MAX - 1);
+    match rng.below(12) {
+        0 | 1 => (0, 1),
+        2..=4 => (number, number + 1),
+        5 => (0, u64::MAX),
+        6 | 7 => (number, number),
+        8 => rng.pick(&[(0, 0), (u64::MAX, u64::MAX)]),
+        9 => (number + 1, number),
+        _ => (edge(rng), edge(rng)),
+    }
+}
+
+/// Two numbers, mostly with a sum of 2^64, of 1 less, or of the most that there can be.
+fn addends(rng: &mut Rng) -> (u64, u64) {
+    let number = edge(rng).max(1);
+    match rng.below(8) {
+        0..=2 => (number, u64::MAX - number + 1),
+        3 | 4 => (number, u64::MAX - number),
+        5 => (u64::MAX, u64::MAX),
+        _ => (edge(rng), edge(rng)),
+    }
+}
+
+/// A call that takes `b` from `a`, with what it needs before it. The coin at the address is there.
+fn taking(rng: &mut Rng, at: u64) -> Script {
+    let (a, b) = two_numbers(rng);
+    // The seventeenth frame is one too many.
+    let deeper = if rng.chance(25) { rng.within(14, 16) } else { rng.within(1, 13) } as u64;
+    let elsewhere = rng.within(10, 12) as u64;
+    let set = (Id::Set, vec![at, a]);
+    match rng.below(28) {
+        0 | 1 => vec![(Id::Subtract, vec![a, b])],
+        2 | 3 => vec![(Id::SubtractTurned, vec![b, a])],
+        4 => vec![(rng.pick(&[Id::ZeroLessMost, Id::MostLessMost]), vec![])],
+        5 => vec![(Id::Compare, vec![a, b])],
+        6 => vec![set, (Id::Take, vec![at, b])],
+        7 => vec![(Id::Set, vec![at, b]), (Id::TakeTurned, vec![at, a])],
+        8 => vec![set, (Id::TakeEnough, vec![at, b])],
+        9 => vec![set, (Id::Balance, vec![at, 0, b])],
+        10 => vec![set, (Id::Repack, vec![at, b])],
+        11 => vec![(Id::WriteTake, vec![at, edge(rng), a, b])],
+        12 => vec![(Id::PublishTake, vec![elsewhere, a, b])],
+        13 => vec![(Id::MakeCrate, vec![elsewhere, a]), (Id::CrateTake, vec![elsewhere, b])],
+        14 | 15 => vec![(Id::DeductOwn, vec![a, b])],
+        16 => vec![set, (Id::Pay, vec![at, address(rng), b])],
+        17 | 18 => vec![set, (Id::PayLate, vec![at, address(rng), b])],
+        19 => vec![set, (Id::Order, vec![at, elsewhere, b])],
+        20..=24 => vec![(Id::Dig, vec![deeper, at, a, b])],
+        _ => vec![(Id::Delve, vec![deeper, at, a, b])],
+    }
+}
+
+/// A call that adds two numbers, in the same way.
+fn adding(rng: &mut Rng, at: u64) -> Script {
+    let (a, b) = addends(rng);
+    let set = (Id::Set, vec![at, a]);
+    match rng.below(7) {
+        0 | 1 => vec![(Id::Add, vec![a, b])],
+        2 => vec![(Id::MostAndMost, vec![])],
+        3 => vec![(Id::Compare, vec![a, b])],
+        4 => vec![set, (Id::Bump, vec![at, b])],
+        5 => vec![set, (Id::Balance, vec![at, b, rng.pick(&[0, 1, u64::MAX])])],
+        _ => vec![set, (Id::PayLate, vec![address(rng), at, b])],
+    }
+}
+
+/// Credits are drawn on and paid in, too much and just enough, among calls that stop otherwise.
+fn till_script(rng: &mut Rng) -> Script {
+    let mut calls = vec![(Id::Mint, vec![0, 500]), (Id::Mint, vec![1, edge(rng)])];
+    for _ in 0..rng.within(2, 6) {
+        let at = rng.below(2) as u64;
+        match rng.below(8) {
+            0..=3 => calls.extend(taking(rng, at)),
+            4..=6 => calls.extend(adding(rng, at)),
+            _ => calls.push(stopping_otherwise(rng, at)),
+        }
+        if rng.chance(30) {
+            calls.push((Id::Get, vec![at]));
+        }
+    }
     calls
+}
+
+/// A call that stops with 33 to 38.
+fn stopping_otherwise(rng: &mut Rng, at: u64) -> (Id, Vec<u64>) {
+    match rng.below(6) {
+        0 => (Id::Mint, vec![at, 1]),
+        1 => (Id::Get, vec![at + 50]),
+        2 => (Id::StaleGlobal, vec![at]),
+        3 => (Id::Deep, vec![16]),
+        4 => (Id::FillCrates, vec![40, 100]),
+        _ => (Id::Fill, vec![65, 100]),
+    }
 }
 
 /// Comes to 127, 128 or 129 records.
@@ -338,6 +454,10 @@ fn many_records(rng: &mut Rng) -> Script {
         let last = calls[calls.len() - 1].clone();
         calls.push((Id::Churn, vec![rng.pick(&[1, 2, 127, 130, 200])]));
         calls.push(last);
+    }
+    // Those of an overdrawn call live no longer.
+    if rng.chance(40) {
+        calls.insert(0, (Id::FillStop, vec![rng.within(1, 60) as u64, 300, 0]));
     }
     calls
 }
