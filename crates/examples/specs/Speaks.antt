@@ -13,7 +13,6 @@ use Rattle.table.specs.Index.{indexOf}
 use Rattle.judging.specs.Judging.{judgeOf}
 use Rattle.reach.specs.Reach.{Mem}
 use Rattle.semantics.specs.Machine.{toField, Value, num, refer, Cell, Entry, Frame, frame, State, state, next, finished, stopped, stuck}
-use Rattle.semantics.specs.Limits.{tooLarge, belowZero}
 use Rattle.semantics.specs.Calls.{listOf}
 use Rattle.semantics.specs.History.{Base, base, Event, moment, ended}
 use Rattle.semantics.specs.Run.{historyOf}
@@ -159,8 +158,8 @@ module _ (t l : List ℕ) where
   pub record Calculates : Type 0 where
     pub accepted : judgeOf t ≡ Accepted (rowCount t)
     pub good : listOf t (indexOf t) l ≡ Accepted (rowCount l)
-    pub overdrawn : Happens (StopsWith belowZero (Overdraws t))
-    pub overflown : Happens (StopsWith tooLarge (Overflows t))
+    pub overdrawn : Happens (StopsWith 39 (λ (row : ℕ) (ops : List Value). Overdraws (rowAt t row) ops))
+    pub overflown : Happens (StopsWith 32 (λ (row : ℕ) (ops : List Value). Overflows (rowAt t row) ops))
 
 -- A table and a list: a guest lets a credit be issued, written and published, and then lets it be withdrawn twice, at which it stops
 unfoldable pub tableGuest : List ℕ

@@ -3,7 +3,7 @@
 use Prim.Native.Nat.{ℕ}
 use mathlib.Core.Path.{_≡_, refl, sym, ap, subst}
 use mathlib.Core.Bool.{Bool, true, false, cond}
-use mathlib.Core.List.{List, _++_}
+use mathlib.Core.List.{List, [], _∷_, _++_}
 use lib.Dec.{ltb}
 use lib.ListN.{length, drop}
 use Rattle.table.specs.declared.Verdict.{Verdict}
@@ -15,7 +15,9 @@ use Rattle.acceptance.specs.Judged.{Bytes}
 use Rattle.semantics.specs.Calls.{listOf, callsOf}
 use Rattle.semantics.specs.Text.{textOf}
 use Rattle.semantics.specs.Run.{minText, bufferOf, historyOf, answerWith, bufferWith, runOf}
-use Rattle.semantics.specs.History.{Event, nothing}
+use Rattle.semantics.specs.Machine.{State, stopped}
+use Rattle.semantics.specs.History.{Base, Event, ended, nothing}
+use Rattle.semantics.specs.Claim.{All, also, StopsAt, SafeEnd, restores, Safe, ends}
 use Rattle.semantics.specs.Chain.{Chained, Claimed}
 use Rattle.semantics.specs.Told.{Told}
 use Rattle.semantics.proofs.Changes.{clash}
@@ -23,6 +25,7 @@ use Rattle.semantics.proofs.Demand3.{demand3}
 use Rattle.semantics.proofs.Every.{only-chain}
 use Rattle.semantics.proofs.Told.{text-told}
 use Rattle.semantics.proofs.OneText.{one-text}
+use Rattle.semantics.proofs.Lines.{StopLine, told-line}
 
 -- what was run: the text stands in the buffer, it tells each call and each entry of the store, in order, and the history that it tells is that of the
 -- list's calls, with every event safe
@@ -61,3 +64,23 @@ run-fixed t l buffer size bt bl e es text c w =
     let told : Told (historyOf t l) text = subst (λ (es : List Event). Told es text) history-is w in
     let same : text ≡ textOf (historyOf t l) = one-text told (s .told) in
     rw same (s .whole, s .text)
+
+-- A call that stopped, with k at row r: its line stands in the text after those of the calls before it and tells both, and the instruction at r had that cause to
+-- stop, or the budget was spent
+pub run-stops : (t l buffer : List ℕ) (size : ℕ) → Bytes t → Bytes l → (runOf t l buffer) .answer ≡ Accepted size
+    → (front rest : List Event) (before after : Base) (s : State) (r k : ℕ) → historyOf t l ≡ front ++ (ended before s r (stopped k) after ∷ rest)
+    → StopLine 0 front r k (textOf (historyOf t l)) × StopsAt t r s k
+run-stops t l buffer size bt bl e front rest before after s r k h =
+    let run = run-safe t l buffer size bt bl e in
+    let held : All (Safe t (indexOf t)) (front ++ (ended before s r (stopped k) after ∷ rest)) = subst (λ (es : List Event). All (Safe t (indexOf t)) es) h (run .claimed .safe) in
+    (told-line before after s r k rest front (historyOf t l) (textOf (historyOf t l)) (run .told) h, why (there front held))
+  where
+    there : (front : List Event) → All (Safe t (indexOf t)) (front ++ (ended before s r (stopped k) after ∷ rest)) → Safe t (indexOf t) (ended before s r (stopped k) after)
+    there [] (also q a) = q
+    there (x ∷ front) (also q a) = there front a
+
+    cause : SafeEnd t (indexOf t) before s r (stopped k) after → StopsAt t r s k
+    cause (restores c q) = c
+
+    why : Safe t (indexOf t) (ended before s r (stopped k) after) → StopsAt t r s k
+    why (ends d q) = cause d

@@ -383,7 +383,7 @@ module _ (t : List ℕ) (ix : Index) where
   starts : {budget : ℕ} {s z : State} {o : Outcome} {es : List Event} → Moments t ix budget s es z o → (o′ : Outcome) × (more : List Event) × (es ≡ moment s (rowUp t ix s) o′ ∷ more)
   starts {o} spent = (o, [], refl)
   starts (steps {s′} {es} e m) = (next s′, es, refl)
-  starts {o} (done e f) = (o, [], refl)
+  starts {o} (done e f h) = (o, [], refl)
 
   -- a place in the events of a call and what follows them is one in the call's, or in what follows
   in-rest : {budget : ℕ} {s z : State} {o : Outcome} {es : List Event} → Moments t ix budget s es z o → (rest front : List Event) (b : Base) (z′ : State) (r : ℕ) (o′ : Outcome) (b′ : Base) (more : List Event)
@@ -392,8 +392,8 @@ module _ (t : List ℕ) (ix : Index) where
   in-rest spent rest (x ∷ f) b z′ r o′ b′ more e = (f, tail-same e)
   in-rest (steps d m) rest [] b z′ r o′ b′ more e = absurd (clash (cc))
   in-rest (steps d m) rest (x ∷ f) b z′ r o′ b′ more e = in-rest m rest f b z′ r o′ b′ more (tail-same e)
-  in-rest (done d g) rest [] b z′ r o′ b′ more e = absurd (clash (cc))
-  in-rest (done d g) rest (x ∷ f) b z′ r o′ b′ more e = (f, tail-same e)
+  in-rest (done d g h) rest [] b z′ r o′ b′ more e = absurd (clash (cc))
+  in-rest (done d g h) rest (x ∷ f) b z′ r o′ b′ more e = (f, tail-same e)
 
   -- what stands after the end of a call is chained from what it left
   onwards : {cs : List Call} {b : Base} {l : List Event} → Chained t ix cs b l → (front : List Event) (b₁ : Base) (z : State) (r : ℕ) (o : Outcome) (b₂ : Base) (more : List Event) → l ≡ front ++ (ended b₁ z r o b₂ ∷ more)
@@ -421,9 +421,9 @@ module _ (t : List ℕ) (ix : Index) where
       let a : s₀ ≡ s = cc in let b : o ≡ next s₁ = cc in let c : es ++ rest ≡ more = cc in let k = starts m in
       inl (inl (b ∙ sym d ∙ ap (step t ix) a), λ s′ q. let w : s₁ ≡ s′ = cc (b, q) in rw (← w) (k .0, k .1 ++ rest, sym c ∙ ap (λ (l : List Event). l ++ rest) (k .2)))
   led-in (steps d m) rest (x ∷ f) s r o more e = led-in m rest f s r o more (tail-same e)
-  led-in (done {s = s₀} {o = o₁} d g) rest [] s r o more e =
+  led-in (done {s = s₀} {o = o₁} d g h) rest [] s r o more e =
       let a : s₀ ≡ s = cc in let b : o₁ ≡ o = cc in inl (inl (sym b ∙ sym d ∙ ap (step t ix) a), λ s′ q. absurd (g s′ (b ∙ q)))
-  led-in (done d g) rest (x ∷ f) s r o more e = inr (f, tail-same e)
+  led-in (done d g h) rest (x ∷ f) s r o more e = inr (f, tail-same e)
 
   pub led : {cs : List Call} {b : Base} {l : List Event} → Chained t ix cs b l → (front : List Event) (s : State) (r : ℕ) (o : Outcome) (more : List Event) → l ≡ front ++ (moment s r o ∷ more) → Led s o more
   led no-call [] s r o more e = absurd (clash (cc))

@@ -8,6 +8,7 @@ use mathlib.Core.Logic.{_⊎_, inl, inr, ⊎-elim}
 use native.Mathlib.Omega.{arith}
 use lib.ListN.{length, drop}
 use Rattle.table.specs.declared.Row.{Row}
+use Rattle.table.specs.declared.index.Index.{Index}
 use Rattle.table.specs.declared.Verdict.the-variants.{Accepted}
 use Rattle.table.specs.Format.{maxResults, opPack, opUnpack, opMoveTo, opMoveFrom}
 use Rattle.table.specs.Index.{indexOf, ownerAt}
@@ -27,7 +28,6 @@ use Rattle.semantics.specs.Run.{historyOf}
 use Rattle.semantics.specs.Words.{moduleOf, operand, Exists, IsEntry}
 use Rattle.semantics.specs.Callable.{GoodCall}
 use Rattle.semantics.specs.Claim.{All, none-left, also, IsNumber, Rising, Owned, Sound, Ready, Kept, Proper, By, Freezes, Calculates, Unhindered, StopsAt, SafeOutcome, goes as goes-on, returnsLast, stops as stops-there, Restored, finishes, restores, Between, Later, Safe, safe, ends as ends-there}
-use Rattle.semantics.specs.Stops.{Cause}
 use Rattle.semantics.specs.Chain.{Chained, Claimed}
 use Rattle.semantics.proofs.Changes.{clash, grows, Limited}
 use Rattle.semantics.proofs.Indexed.{moduleIn, declarerIn}
@@ -41,11 +41,12 @@ use Rattle.semantics.proofs.Owning.{nested, plain, reached, shaped, ent
 use Rattle.semantics.proofs.Worded.{types-are, procedures-are, type-is, procedure-is, declarer-is, module-is}
 use Rattle.semantics.proofs.Placed.{place-is, end-is, row-is, kind-is, owner-is, guests-are}
 use Rattle.semantics.proofs.Labels.{types-hold, links}
-use Rattle.semantics.proofs.Outcomes.{goes, ends, stops}
+use Rattle.semantics.proofs.Outcomes.{goes, ends}
 use Rattle.semantics.proofs.Stops.{calculation-comes, op-comes, stops-for}
+use Rattle.semantics.proofs.Causes.{stop-caused}
 use Rattle.semantics.proofs.Callable.{good-calls}
 use Rattle.semantics.proofs.ReadOnly.{freezes}
-use Rattle.semantics.proofs.Invariant.{used, usedAt, Within, BaseOk, MomentOk, EndOk, EventOk, HandedAt, handed-at, outcome-ok, no-frame, restored-ok, restored-length, buried-dead, chain-ok, nothing-ok}
+use Rattle.semantics.proofs.Invariant.{used, usedAt, Within, BaseOk, MomentOk, EndOk, EventOk, HandedAt, handed-at, outcome-ok, restored-ok, restored-length, buried-dead, chain-ok, nothing-ok}
 use Rattle.semantics.proofs.Every.{chained}
 
 pub all-head : {B : Type 0} {Q : B → Type 0} {x : B} {l : List B} → All Q (x ∷ l) → Q x
@@ -54,6 +55,10 @@ all-head (also q a) = q
 pub all-map : {B : Type 0} {P Q : B → Type 0} → ((x : B) → P x → Q x) → {l : List B} → All P l → All Q l
 all-map f none-left = none-left
 all-map f (also {x} p a) = also (f x p) (all-map f a)
+
+-- the cause of a stop
+stop-of : {t : List ℕ} {ix : Index} {s : State} {row k : ℕ} → Safe t ix (moment s row (stopped k)) → StopsAt t row s k
+stop-of (safe a (stops-there c)) = c
 
 module _ (t : List ℕ) (J : Judged t (indexOf t)) where
   -- records and entries
@@ -161,7 +166,7 @@ module _ (t : List ℕ) (J : Judged t (indexOf t)) where
     calculated-by fs fs′ h h′ st st′ n n′ r q e =
         let z = takes-there t J f in
         let o = op-finds t J f (ap (λ (r : Row). r .a) found ∙ e) in
-        go (o .0) (o .1) (o .2) (o .3) (calculation (rowAt t here-row .b) (o .0) (o .1)) refl (q ∙ op-comes t (indexOf t) here-row id p i ops ls fs h st n found (z .0) r (z .1 .0) (z .1 .1) (z .1 .2) e (o .3) _ refl)
+        go (o .0) (o .1) (o .2) (o .3) (calculation (rowAt t here-row .b) (o .0) (o .1)) refl (q ∙ op-comes t (indexOf t) id p i ops ls fs h st n (z .0) r (z .1 .0) (z .1 .1) (z .1 .2) (ap (λ (r : Row). r .a) found ∙ e) (o .3) _ (ap (λ (r : Row). calculation (r .b) (o .0) (o .1)) found))
       where
         go : (x y : ℕ) (under : List Value) → ops ≡ num y ∷ num x ∷ under → (c : Calculated) → calculation (rowAt t here-row .b) x y ≡ c → next (state fs′ h′ st′ n′) ≡ calculation-comes id p i ls fs h st n under c
             → (x y z : ℕ) × (under : List Value) × (ops ≡ num y ∷ num x ∷ under) × (calculation (rowAt t here-row .b) x y ≡ Gives z) × (fs′ ≡ frame id p (i + 1) (num z ∷ under) ls ∷ fs) × (h′ ≡ h) × (st′ ≡ st)
@@ -171,11 +176,11 @@ module _ (t : List ℕ) (J : Judged t (indexOf t)) where
         go x y under s Unknown g w = absurd (clash (cc))
 
     -- a step that is done had no cause to stop
-    unhindered : (fs : List Frame) (h : List Cell) (st : List Entry) (n : ℕ) {z : State} → Rising n (frame id p i ops ls ∷ fs) → next z ≡ step t (indexOf t) (state (frame id p i ops ls ∷ fs) h st n) → Unhindered t (indexOf t) here-row ops (frame id p i ops ls ∷ fs) h st
+    unhindered : (fs : List Frame) (h : List Cell) (st : List Entry) (n : ℕ) {z : State} → Rising n (frame id p i ops ls ∷ fs) → next z ≡ step t (indexOf t) (state (frame id p i ops ls ∷ fs) h st n) → Unhindered t here-row ops (frame id p i ops ls ∷ fs) h st
     unfolding instruction
     unhindered fs h st n r e k c =
         let z = takes-there t J f in
-        let d = e ∙ stops-for t (indexOf t) here-row id p i ops ls fs h st n found (z .0) r (z .1 .0) (z .1 .1) (z .1 .2) c in
+        let d = e ∙ stops-for t (indexOf t) id p i ops ls fs h st n (z .0) r (z .1 .0) (z .1 .1) (z .1 .2) (rw (← found) at c) in
         clash (cc (d))
 
     -- what comes of it
@@ -186,7 +191,7 @@ module _ (t : List ℕ) (J : Judged t (indexOf t)) where
         let v = k .0 in
         goes-on (unhindered fs h st n r e) (proper n {fs = fs} own s (entries-typed t J (v .T) h′ (v .types) (v .records) fs′ st′ (v .store) (v .owned)) (k .1)) (q .0) (q .1) (frozen-by fs fs′ h h′ st st′ n n′ e) (calculated-by fs fs′ h h′ st st′ n n′ r e)
     outcome (finished vs z) own s r k (ends q) e = rw (q .3) (returnsLast (q .0) (q .1) (q .2))
-    outcome (stopped j) own s r k (stops c) e = stops-there (inr c)
+    outcome {fs} {h} {st} {n} (stopped j) own s r k q e = stops-there (inr (rw found at (stop-caused t (indexOf t) id p i ops ls fs h st n j (sym e))))
     outcome stuck own s r k q e = absurd k
 
   -- a moment is safe
@@ -219,14 +224,9 @@ module _ (t : List ℕ) (J : Judged t (indexOf t)) where
             rising = k .within .1;
           }) (safe-outcome f row o k (all-head own) here-sound))
 
-  -- a stop has its cause
-  stops-at : (s : State) (row k : ℕ) → MomentOk t J s row (stopped k) → StopsAt t (indexOf t) row s k
-  stops-at (state [] h st n) row k m = absurd (no-frame t J (m .holds))
-  stops-at (state (frame id p i ops ls ∷ fs) h st n) row k m =
-      ⊎-elim (λ e. rw (m .at) (inr (cause (handed-moment _ row (stopped k) m e)))) (λ e. inl (cc (e))) (m .did)
-    where
-      cause : HandedAt t J (state (frame id p i ops ls ∷ fs) h st n) (stopped k) → Cause t (procedureIn (indexOf t) p .code + i) ops (frame id p i ops ls ∷ fs) h st k
-      cause (stops c) = c
+  -- so is where a call stopped
+  stops-at : (s : State) (row k : ℕ) → MomentOk t J s row (stopped k) → StopsAt t row s k
+  stops-at s row k m = stop-of (safe-moment s row (stopped k) m)
 
   -- a call that is done leaves no frame, and records, store and count as they were at its last moment
   abbrev emptied : State → State
@@ -238,7 +238,7 @@ module _ (t : List ℕ) (J : Judged t (indexOf t)) where
 
   -- an end is safe
   end-go : (before : Base) (s : State) (row : ℕ) (o : Outcome) → BaseOk t J before → used before ≤ usedAt s → ((s′ : State) → o ≡ next s′ → ⊥) → OutcomeOk t (DidAt t s) o → Within t J s
-      → ((vs : List Value) (z : State) → o ≡ finished vs z → z ≡ emptied s) → ((k : ℕ) → o ≡ stopped k → StopsAt t (indexOf t) row s k) → Safe t (indexOf t) (ended before s row o (afterwards before s o))
+      → ((vs : List Value) (z : State) → o ≡ finished vs z → z ≡ emptied s) → ((k : ℕ) → o ≡ stopped k → StopsAt t row s k) → Safe t (indexOf t) (ended before s row o (afterwards before s o))
   unfolding BaseOk
   end-go before s row (next z) v l f k w d c = absurd (f z refl)
   end-go (base h₀ st₀ n₀) (state fs h st n) row (finished vs z) v l f k w d c =

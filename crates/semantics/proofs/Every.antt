@@ -9,6 +9,7 @@ use Rattle.semantics.specs.Calls.{Call, call}
 use Rattle.semantics.specs.History.{Base, Event, moment, ended, afterwards, Run, ran, afterMoment, rowUp, onward, go, begin, eventsOf, baseAfter, history}
 use Rattle.semantics.specs.Chain.{Moments, spent, steps, done, Chained, no-call, one-call}
 use Rattle.semantics.proofs.Changes.{clash}
+use Rattle.semantics.proofs.Causes.{never-spent}
 
 app-assoc : {A : Type 0} (xs : List A) (y : A) (zs : List A) → (xs ++ (y ∷ [])) ++ zs ≡ xs ++ (y ∷ zs)
 app-assoc [] y zs = refl
@@ -24,9 +25,9 @@ module _ (t : List ℕ) (ix : Index) where
 
   onward-whole : (budget : ℕ) (s : State) (o : Outcome) → step t ix s ≡ o → ((s′ : State) → WholeRun budget s′ (go t ix budget s′)) → WholeRun (suc budget) s (onward t ix s o (go t ix budget))
   onward-whole budget s (next s′) e ih = add budget s s′ (go t ix budget s′) e (ih s′)
-  onward-whole budget s (finished vs s′) e ih = (done e (λ s″ q. clash (cc (q))), refl)
-  onward-whole budget s (stopped k) e ih = (done e (λ s″ q. clash (cc (q))), refl)
-  onward-whole budget s stuck e ih = (done e (λ s″ q. clash (cc (q))), refl)
+  onward-whole budget s (finished vs s′) e ih = (done e (λ s″ q. clash (cc (q))) (λ q. clash (cc (q))), refl)
+  onward-whole budget s (stopped k) e ih = (done e (λ s″ q. clash (cc (q))) (λ q. never-spent t ix s (e ∙ q)), refl)
+  onward-whole budget s stuck e ih = (done e (λ s″ q. clash (cc (q))) (λ q. clash (cc (q))), refl)
 
   pub go-whole : (budget : ℕ) (s : State) → WholeRun budget s (go t ix budget s)
   unfolding go
@@ -47,7 +48,7 @@ module _ (t : List ℕ) (ix : Index) where
   unfolding go
   moments-are spent = refl
   moments-are (steps {budget} {s} {s′} e m) = ap (λ (x : Outcome). onward t ix s x (go t ix budget)) e ∙ ap (afterMoment (moment s (rowUp t ix s) (next s′))) (moments-are m)
-  moments-are (done {budget} {s} {o} e f) = ap (λ (x : Outcome). onward t ix s x (go t ix budget)) e ∙ last o f
+  moments-are (done {budget} {s} {o} e f h) = ap (λ (x : Outcome). onward t ix s x (go t ix budget)) e ∙ last o f
     where
       last : (o : Outcome) → ((s′ : State) → o ≡ next s′ → ⊥) → onward t ix s o (go t ix budget) ≡ ran (moment s (rowUp t ix s) o ∷ []) s (rowUp t ix s) o
       last (next s′) g = absurd (g s′ refl)

@@ -17,19 +17,15 @@ use Rattle.reach.specs.Reach.{Mem}
 use Rattle.arithmetic.specs.declared.Calculated.{Calculated}
 use Rattle.arithmetic.specs.declared.Calculated.the-variants.{Value as Gives, TooLarge, BelowZero, Unknown}
 use Rattle.arithmetic.specs.Arithmetic.{calculation}
-use Rattle.arithmetic.proofs.Range as Range
-use Rattle.semantics.specs.Machine.{Ref, toLocal, toField, toRecord, Value, num, obj, refer, valueKind, writable, Cell, gone, here, Entry, Frame, frame, State, state, next, stuck, liveCount, findKey, putLocal, Target, aRecord, stale, inCell, target, writeFrames}
+use Rattle.semantics.specs.Machine.{Ref, toLocal, toField, toRecord, Value, num, obj, refer, valueKind, writable, Cell, gone, here, Entry, Frame, frame, State, state, next, stuck, liveCount, findKey, putLocal, Target, aRecord, inCell, target, writeFrames}
 use Rattle.semantics.specs.Step.{pushedOn, Taken, took, missing, taken, alsoTaken, withTaken, startLocals, returned, noneHeld, calculated, actions, instruction, effectAt, act, step}
-use Rattle.semantics.specs.Limits.{maxFrames, maxRecords, maxEntries, staleReference}
+use Rattle.semantics.specs.Limits.{maxFrames, maxRecords, maxEntries}
 use Rattle.semantics.specs.Words.{bodyOf, Holds, operand, local}
-use Rattle.semantics.specs.Stops.{Cause, too-large, below-zero, key-taken, no-such-key, stale-there, stale-written, frames-full, records-full, entries-full}
 use Rattle.semantics.specs.Claim.{All, none-left, also, Rising, IsReference, Makes, local-made, field-made, nested-made, entry-made, frozen-made, Takes, Handed, goesOn, writes, calls, returns, Origin}
 use Rattle.semantics.proofs.Changes.{clash}
-use Rattle.semantics.proofs.Sounds.{found-there, none-found}
 use Rattle.semantics.proofs.Typing.{Fields, dnil, dnum, dobj, CellOk}
 use Rattle.semantics.proofs.Frames.{all-set}
 use Rattle.semantics.proofs.Running.{target-same}
-use Rattle.semantics.proofs.Stale.{stale-value}
 use Rattle.semantics.proofs.Outcomes.{OutQ, goes, ends, stops, sticks, cond-q, limit-q, local-q, one-q, two-q, number-q, record-q, reference-q, number-at-q, record-at-q, fields-at-q, fillable-q, field-q, key-q, under-q, pick}
 
 -- lists
@@ -144,9 +140,9 @@ module _ (t : List ℕ) (ix : Index) (T : List ℕ) (row id p i : ℕ) (ops : Li
   abbrev E : List Value → State → Type 0
   E vs s = (rowAt t row .a ≡ 16) × Takes t ix p i ops vs [] × (fs ≡ []) × (s ≡ state [] rs st n)
 
-  -- a stop has its cause
+  -- nothing of a stop
   abbrev S : ℕ → Type 0
-  S k = Cause t row ops here-now rs st k
+  S k = Unit {0}
 
   -- the instruction took the values vs and left `under`
   module _ (vs under : List Value) (takes : Takes t ix p i ops vs under) where
@@ -169,9 +165,6 @@ module _ (t : List ℕ) (ix : Index) (T : List ℕ) (row id p i : ℕ) (ops : Li
 
     top : (r : Value) → vs ≡ r ∷ [] → ops ≡ r ∷ under
     top r q = shape ∙ ap (λ (l : List Value). pushedOn l under) q
-
-    stale-here : (r : Value) → ops ≡ r ∷ under → (rowAt t row .a ≡ 6) ⊎ (rowAt t row .a ≡ 8) → lead r ≡ stale → S staleReference
-    stale-here r q e z = let g = stale-value here-now rs r (leads r z) in stale-there e (q ∙ ap (λ (u : Value). u ∷ under) (g .2)) (g .3)
 
     only-number : (a : ℕ) (w : Value) → vs ≡ w ∷ [] → w ≡ num a → ops ≡ num a ∷ under
     only-number a w q u = top (num a) (q ∙ ap (λ (x : Value). x ∷ []) u)
@@ -229,12 +222,11 @@ module _ (t : List ℕ) (ix : Index) (T : List ℕ) (row id p i : ℕ) (ops : Li
     both : (v w : Value) → vs ≡ v ∷ w ∷ [] → ops ≡ w ∷ v ∷ under
     both v w q = shape ∙ ap (λ (l : List Value). pushedOn l under) q
 
-    given : rowAt t row .a ≡ 19 → (x y : ℕ) → ops ≡ num y ∷ num x ∷ under → (c : Calculated) → calculation b x y ≡ c
-        → OutQ G E S (calculated (rowAt t row .b) (rowAt t row .d) (localKind t (procedureIn ix p) (rowAt t row .b)) (localCount (procedureIn ix (rowAt t row .b)) - length vs) vs id p i under ls fs rs st n c)
-    given e x y q (Gives z) d = on 19 (i + 1) {ws = num z ∷ []} refl e (also (number-known z) none-left) slots-known
-    given e x y q TooLarge d = let g = Range.too-large b x y .0 d in stops (too-large (x, y, (e, g .0, (under, q)), g .1))
-    given e x y q BelowZero d = let g = Range.below-zero b x y .0 d in stops (below-zero (x, y, (e, g .0, (under, q)), omega (arith, g .1)))
-    given e x y q Unknown d = sticks
+    given : rowAt t row .a ≡ 19 → (c : Calculated) → OutQ G E S (calculated (rowAt t row .b) (rowAt t row .d) (localKind t (procedureIn ix p) (rowAt t row .b)) (localCount (procedureIn ix (rowAt t row .b)) - length vs) vs id p i under ls fs rs st n c)
+    given e (Gives x) = on 19 (i + 1) {ws = num x ∷ []} refl e (also (number-known x) none-left) slots-known
+    given e TooLarge = stops tt
+    given e BelowZero = stops tt
+    given e Unknown = sticks
 
     acted : OutQ G E S (getD (actions (rowAt t row .b) (rowAt t row .d) (localKind t (procedureIn ix p) (rowAt t row .b)) (localCount (procedureIn ix (rowAt t row .b)) - length vs) vs id p i under ls fs rs st n) (rowAt t row .a) stuck)
     unfolding actions
@@ -251,30 +243,30 @@ module _ (t : List ℕ) (ix : Index) (T : List ℕ) (row id p i : ℕ) (ops : Li
               (
                 (λ e. local-q G E S (nth ls b) _ (λ v q. on 5 (i + 1) {ws = refer true (toLocal id b (localKind t (procedureIn ix p) b)) ∷ []} refl e (also (borrowed e) none-left) slots-known)),
                 (
-                  (λ e. one-q G E S vs _ (λ r q. number-at-q G E S (lead r) _ (stale-here r (top r q) (inl e)) (λ x. on 6 (i + 1) {ws = num x ∷ []} refl e (also (number-known x) none-left) slots-known))),
+                  (λ e. one-q G E S vs _ (λ r q. number-at-q G E S (lead r) _ (λ z. tt) (λ x. on 6 (i + 1) {ws = num x ∷ []} refl e (also (number-known x) none-left) slots-known))),
                   (
-                    (λ e. two-q G E S vs _ (λ v r q. number-q G E S v _ (λ x w. let s = both (num x) r (q ∙ ap (λ (u : Value). u ∷ r ∷ []) w) in number-at-q G E S (lead r) _ (λ z. let g = stale-value here-now rs r (leads r z) in stale-written e (s ∙ ap (λ (u : Value). u ∷ num x ∷ under) (g .2)) (g .3)) (λ y. written r x e s)))),
+                    (λ e. two-q G E S vs _ (λ v r q. number-q G E S v _ (λ x w. let s = both (num x) r (q ∙ ap (λ (u : Value). u ∷ r ∷ []) w) in number-at-q G E S (lead r) _ (λ z. tt) (λ y. written r x e s)))),
                     (
-                      (λ e. one-q G E S vs _ (λ r q. record-at-q G E S (lead r) _ (stale-here r (top r q) (inr e)) (λ c ws z. field-q G E S c (b / 8) (b % 8) (nth ws (b % 8)) _
+                      (λ e. one-q G E S vs _ (λ r q. record-at-q G E S (lead r) _ (λ z. tt) (λ c ws z. field-q G E S c (b / 8) (b % 8) (nth ws (b % 8)) _
                           (on 8 (i + 1) {ws = refer (writable r) (toField c (b / 8) (b % 8)) ∷ []} refl e (also (λ w. inr (field-made e (top r q) (leads r z))) none-left) slots-known)
                           (λ c′ y u. on 8 (i + 1) {ws = refer (writable r) (toRecord c′ y) ∷ []} refl e (also (λ w. inr (nested-made e (top r q) (leads r z) u)) none-left) slots-known)))),
                       (
-                        (λ e. limit-q G E S (liveCount rs) maxRecords _ _ (on 9 (i + 1) {ws = obj (length rs) b ∷ []} refl e (also (record-known (length rs) b) none-left) slots-known) (λ l. stops (records-full e l))),
+                        (λ e. limit-q G E S (liveCount rs) maxRecords _ _ (on 9 (i + 1) {ws = obj (length rs) b ∷ []} refl e (also (record-known (length rs) b) none-left) slots-known) (λ l. stops tt)),
                         (
                           (λ e. one-q G E S vs _ (λ v q. record-q G E S v _ (λ a c o. fields-at-q G E S (inCell a (nth rs a)) _ (λ c ws z. let y = in-cell-here a (nth rs a) c ws z in on 10 (i + 1) {ws = ws} refl e (cells-known a (y .0) ws (y .1)) slots-known)))),
                           (
-                            (λ e. two-q G E S vs _ (λ v w q. record-q G E S v _ (λ r c o. number-q G E S w _ (λ a u. let s = both (obj r c) (num a) (cc (q, o, u)) in key-q G E S (findKey st b a) _ _
-                                (λ z. limit-q G E S (length st) maxEntries _ _ (on 11 (i + 1) {ws = []} refl e none-left slots-known) (λ l. stops (entries-full e s (none-found st b a z) l))) (λ r′ z. stops (key-taken e s (found-there st b a r′ z))))))),
+                            (λ e. two-q G E S vs _ (λ v w q. record-q G E S v _ (λ r c o. number-q G E S w _ (λ a u. key-q G E S (findKey st b a) _ _
+                                (λ z. limit-q G E S (length st) maxEntries _ _ (on 11 (i + 1) {ws = []} refl e none-left slots-known) (λ l. stops tt)) (λ r′ z. stops tt))))),
                             (
-                              (λ e. one-q G E S vs _ (λ w q. number-q G E S w _ (λ a u. key-q G E S (findKey st b a) _ _ (λ z. stops (no-such-key (inl e) (only-number a w q u) (none-found st b a z))) (λ r z. on 12 (i + 1) {ws = obj r b ∷ []} refl e (also (record-known r b) none-left) slots-known)))),
+                              (λ e. one-q G E S vs _ (λ w q. number-q G E S w _ (λ a u. key-q G E S (findKey st b a) _ _ (λ z. stops tt) (λ r z. on 12 (i + 1) {ws = obj r b ∷ []} refl e (also (record-known r b) none-left) slots-known)))),
                               (
-                                (λ e. one-q G E S vs _ (λ w q. number-q G E S w _ (λ a u. key-q G E S (findKey st b a) _ _ (λ z. stops (no-such-key (inr e) (only-number a w q u) (none-found st b a z)))
+                                (λ e. one-q G E S vs _ (λ w q. number-q G E S w _ (λ a u. key-q G E S (findKey st b a) _ _ (λ z. stops tt)
                                     (λ r z. on 13 (i + 1) {ws = refer true (toRecord r b) ∷ []} refl e (also (λ k. inr (entry-made e (only-number a w q u) z)) none-left) slots-known)))),
                                 (
                                   (λ e. one-q G E S vs _ (λ w q. number-q G E S w _ (λ a u. key-q G E S (findKey st b a) _ _ (λ z. on 14 (i + 1) {ws = num 0 ∷ []} refl e (also (number-known 0) none-left) slots-known)
                                       (λ r z. on 14 (i + 1) {ws = num 1 ∷ []} refl e (also (number-known 1) none-left) slots-known)))),
                                   (
-                                    (λ e. limit-q G E S (length fs + 1) maxFrames _ _ (called e) (λ l. stops (frames-full e (omega (arith, l))))),
+                                    (λ e. limit-q G E S (length fs + 1) maxFrames _ _ (called e) (λ l. stops tt)),
                                     (
                                       (λ e. cond-q G E S (noneHeld ls) _ _ (under-q G E S under _ (λ u. back fs refl e u)) sticks),
                                       (
@@ -282,7 +274,7 @@ module _ (t : List ℕ) (ix : Index) (T : List ℕ) (row id p i : ℕ) (ops : Li
                                         (
                                           (λ e. one-q G E S vs _ (λ v q. number-q G E S v _ (λ x u. on 18 _ {ws = []} refl e none-left slots-known))),
                                           (
-                                            (λ e. two-q G E S vs _ (λ v w q. number-q G E S v _ (λ x u. number-q G E S w _ (λ y u′. given e x y (both (num x) (num y) (cc (q, u, u′))) (calculation b x y) refl)))),
+                                            (λ e. two-q G E S vs _ (λ v w q. number-q G E S v _ (λ x u. number-q G E S w _ (λ y u′. given e (calculation b x y))))),
                                             (
                                               (λ e. one-q G E S vs _ (λ v q. reference-q G E S v _ (λ w r u. on 20 (i + 1) {ws = refer false r ∷ []} refl e (also (frozen e v w r q u) none-left) slots-known))),
                                               tt,

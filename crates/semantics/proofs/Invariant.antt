@@ -19,7 +19,6 @@ use Rattle.semantics.specs.Calls.{Call, allNumbers}
 use Rattle.semantics.specs.History.{Base, base, Event, moment, ended, bury, restored, afterwards, Run, ran, rowUp, go, begin, baseAfter, nothing}
 use Rattle.semantics.specs.Ownership.{inValues, inRecords, livesAt}
 use Rattle.semantics.specs.Words.{Exists}
-use Rattle.semantics.specs.Stops.{Cause}
 use Rattle.semantics.specs.Callable.{Callable, GoodCall}
 use Rattle.semantics.specs.Claim.{All, none-left, also, Rising, Takes, Handed, Origin}
 use Rattle.semantics.specs.Chain.{Moments, spent, steps, done, Chained, no-call, one-call}
@@ -162,7 +161,7 @@ module _ (t : List ℕ) (J : Judged t (indexOf t)) where
       OutQ
       (λ (fs′ : List Frame) (n′ : ℕ). Handed t (indexOf t) (procedureIn (indexOf t) p .code + i) id p i ops ls fs n fs′ n′ × Origin t (indexOf t) (procedureIn (indexOf t) p .code + i) id p i ops ls fs h st fs′)
       (λ (vs : List Value) (s : State). (rowAt t (procedureIn (indexOf t) p .code + i) .a ≡ 16) × Takes t (indexOf t) p i ops vs [] × (fs ≡ []) × (s ≡ state [] h st n))
-      (λ (k : ℕ). Cause t (procedureIn (indexOf t) p .code + i) ops (frame id p i ops ls ∷ fs) h st k)
+      (λ (k : ℕ). Unit {0})
       o
 
   pub handed-at : (s : State) → StateOk t s → Within s → HandedAt s (step t (indexOf t) s)
@@ -204,7 +203,7 @@ module _ (t : List ℕ) (J : Judged t (indexOf t)) where
       let r = moments-ok z m (k .0) (k .1) (omega (arith, k .2)) in
       let now : MomentOk s (rowUp t (indexOf t) s) (next s′) = record { holds = v; within = w; at = refl; did = inl (sym e) } in
       (also {x = moment s (rowUp t (indexOf t) s) (next s′)} now (r .0), r .1, r .2, r .3)
-  moments-ok z (done {s} {o} e f) v w l =
+  moments-ok z (done {s} {o} e f h) v w l =
       let m : MomentOk s (rowUp t (indexOf t) s) o = record { holds = v; within = w; at = refl; did = inl (sym e) } in
       (also {x = moment s (rowUp t (indexOf t) s) o} m none-left, m, f, l)
 

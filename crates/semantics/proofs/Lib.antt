@@ -1,5 +1,6 @@
 pub mod Indexed
 pub mod Worded
+pub mod Causes
 pub mod Every
 pub mod Counts
 pub mod Changes
@@ -30,6 +31,7 @@ pub mod Decimal
 pub mod Order
 pub mod Told
 pub mod OneText
+pub mod Lines
 pub mod Lengths
 pub mod Consequences
 pub mod ReadOnly

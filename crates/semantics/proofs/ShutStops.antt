@@ -1,10 +1,10 @@
 -- Wrong stops are not safe, nor is going on where there is a cause to stop: the wrong machines that these clauses of the claim shut out.
 use Prim.Native.Nat.{ℕ, suc, _<_}
 use mathlib.Core.Path.{_≡_, refl}
-use mathlib.Core.List.{List, _∷_}
+use mathlib.Core.List.{List, [], _∷_, List·Memᴰ·head}
 use mathlib.Core.Bool.{Bool}
 use mathlib.Core.Logic.{_⊎_, inl, inr, ⊎-elim, _≢_}
-use mathlib.Core.Option.{Option, some}
+use mathlib.Core.Option.{Option, none, some}
 use native.Mathlib.Omega.{arith}
 use lib.ListN.{length, getElem? as nth}
 use Rattle.table.specs.declared.index.Index.{Index}
@@ -14,14 +14,14 @@ use Rattle.reach.specs.Reach.{Mem}
 use Rattle.arithmetic.specs.declared.Calculated.the-variants.{Value as Gives}
 use Rattle.arithmetic.specs.Arithmetic.{addition, subtraction, isEqual, isLess, calculation}
 use Rattle.arithmetic.proofs.Range as Range
-use Rattle.semantics.specs.Limits.{budgetSpent, tooLarge, belowZero}
 use Rattle.semantics.specs.Machine.{toLocal, toField, Value, num, obj, refer, Cell, gone, Entry, Frame, frame, State, state, next, stopped, liveCount}
 use Rattle.semantics.specs.History.{Base, Event, moment, ended}
 use Rattle.semantics.specs.Words.{IsEntry}
-use Rattle.semantics.specs.Stops.{of-field, unpacked, has-returned, NoEntry, OpOf, Cause, too-large, below-zero, key-taken, no-such-key, stale-there, stale-written, frames-full, records-full, entries-full}
+use Rattle.semantics.specs.Stops.{of-field, unpacked, has-returned, is-empty, NoEntry, OpOf, Cause, too-large, below-zero, key-taken, no-such-key, stale-there, stale-written, frames-full, records-full, entries-full}
 use Rattle.semantics.specs.Claim.{SafeState, Calculates, StopsAt, SafeEnd, goes, stops, restores, Safe, safe, ends}
 use Rattle.semantics.specs.Chain.{Moments}
-use Rattle.semantics.proofs.Stops.{overdraws, overflows, compares, stops-now, spent-first}
+use Rattle.semantics.proofs.Changes.{clash}
+use Rattle.semantics.proofs.Stops.{overdraws, overflows, compares, stops-now, spent-first, spent-only}
 
 -- two numbers on top are these two
 same-first : {ops under under′ : List Value} {x y x′ y′ : ℕ} → ops ≡ num y ∷ num x ∷ under → ops ≡ num y′ ∷ num x′ ∷ under′ → x ≡ x′
@@ -35,75 +35,78 @@ module _ (t : List ℕ) (ix : Index) (row id p i : ℕ) (ops : List Value) (ls :
   abbrev pub here-is : State
   here-is = state (frame id p i ops ls ∷ fs) rs st n
 
-  -- it stops with k: a moment, and the end of the call, of which the line is printed
+  -- it stops with k: a safe moment, or a safe end of the call, of which the line is printed; neither can be
   abbrev pub StopsWith : ℕ → Type 0
   StopsWith k = Safe t ix (moment here-is row (stopped k)) ⊎ ((before after : Base) × Safe t ix (ended before here-is row (stopped k) after))
 
-  end-of : {k : ℕ} {before after : Base} → SafeEnd t ix before here-is row (stopped k) after → StopsAt t ix row here-is k
+  end-of : {k : ℕ} {before after : Base} → SafeEnd t ix before here-is row (stopped k) after → StopsAt t row here-is k
   end-of (restores c r) = c
 
-  stops-of : {k : ℕ} → StopsWith k → StopsAt t ix row here-is k
+  stops-of : {k : ℕ} → StopsWith k → StopsAt t row here-is k
   stops-of (inl (safe s (stops c))) = c
   stops-of (inr (before, after, ends e l)) = end-of e
 
   -- 32 for a difference, 39 for a sum
-  pub not-sum-for-difference : {x y : ℕ} → OpOf t row ops subtraction x y → StopsWith tooLarge → ⊥
+  pub not-sum-for-difference : {x y : ℕ} → OpOf (rowAt t row) ops subtraction x y → StopsWith 32 → ⊥
   not-sum-for-difference o s = let z = overflows t ix row id p i ops ls fs rs st n (stops-of s) refl in omega (arith, o .1, z .2 .1)
 
-  pub not-difference-for-sum : {x y : ℕ} → OpOf t row ops addition x y → StopsWith belowZero → ⊥
+  pub not-difference-for-sum : {x y : ℕ} → OpOf (rowAt t row) ops addition x y → StopsWith 39 → ⊥
   not-difference-for-sum o s = let z = overdraws t ix row id p i ops ls fs rs st n (stops-of s) refl in omega (arith, o .1, z .2 .1)
 
   -- 39 for two equal numbers, or where the first is above the second; 32 for the largest number
-  pub not-at-equal : {x : ℕ} → OpOf t row ops subtraction x x → StopsWith belowZero → ⊥
+  pub not-at-equal : {x : ℕ} → OpOf (rowAt t row) ops subtraction x x → StopsWith 39 → ⊥
   not-at-equal o s = let z = overdraws t ix row id p i ops ls fs rs st n (stops-of s) refl in let a = o .2 .1 in let b = z .2 .2 .1 in omega (arith, z .3, same-first a b, same-second a b)
 
-  pub not-turned-round : OpOf t row ops subtraction 6 5 → StopsWith belowZero → ⊥
+  pub not-turned-round : OpOf (rowAt t row) ops subtraction 6 5 → StopsWith 39 → ⊥
   not-turned-round o s = let z = overdraws t ix row id p i ops ls fs rs st n (stops-of s) refl in let a = o .2 .1 in let b = z .2 .2 .1 in omega (arith, z .3, same-first a b, same-second a b)
 
-  pub not-at-largest : OpOf t row ops addition 18446744073709551615 0 → StopsWith tooLarge → ⊥
+  pub not-at-largest : OpOf (rowAt t row) ops addition 18446744073709551615 0 → StopsWith 32 → ⊥
   not-at-largest o s = let z = overflows t ix row id p i ops ls fs rs st n (stops-of s) refl in let a = o .2 .1 in let b = z .2 .2 .1 in omega (arith, z .3, same-first a b, same-second a b)
 
   -- 39 or 32 of another instruction than Op
-  pub not-below-zero-else : rowAt t row .a ≢ opOp → StopsWith belowZero → ⊥
+  pub not-below-zero-else : rowAt t row .a ≢ opOp → StopsWith 39 → ⊥
   not-below-zero-else f s = f (overdraws t ix row id p i ops ls fs rs st n (stops-of s) refl .2 .0)
 
-  pub not-too-large-else : rowAt t row .a ≢ opOp → StopsWith tooLarge → ⊥
+  pub not-too-large-else : rowAt t row .a ≢ opOp → StopsWith 32 → ⊥
   not-too-large-else f s = f (overflows t ix row id p i ops ls fs rs st n (stops-of s) refl .2 .0)
 
   -- equal and less stop, but not for the budget
-  pub not-at-equality : {k x y : ℕ} → OpOf t row ops isEqual x y → k ≢ budgetSpent → StopsWith k → ⊥
+  pub not-at-equality : {k x y : ℕ} → OpOf (rowAt t row) ops isEqual x y → k ≢ 31 → StopsWith k → ⊥
   not-at-equality o f s = f (compares t ix row id p i ops ls fs rs st n isEqual (omega arith) o (stops-of s))
 
-  pub not-at-comparison : {k x y : ℕ} → OpOf t row ops isLess x y → k ≢ budgetSpent → StopsWith k → ⊥
+  pub not-at-comparison : {k x y : ℕ} → OpOf (rowAt t row) ops isLess x y → k ≢ 31 → StopsWith k → ⊥
   not-at-comparison o f s = f (compares t ix row id p i ops ls fs rs st n isLess (omega arith) o (stops-of s))
 
-  -- In a chain: 39 where the budget is spent, and 31 where it is not and a difference is below zero
-  pub not-before-budget : {es : List Event} {z : State} → Moments t ix 0 here-is es z (stopped belowZero) → ⊥
-  not-before-budget m = let e = spent-first t ix m .2 in let q : belowZero ≡ budgetSpent = cc (e) in omega (arith, q)
+  -- In a chain: 39 where the budget is spent; 31 where it is not, with a difference below zero or whatever else
+  pub not-before-budget : {es : List Event} {z : State} → Moments t ix 0 here-is es z (stopped 39) → ⊥
+  not-before-budget m = let e = spent-first t ix m .2 in let q : _≡_ {A = ℕ} 39 31 = cc (e) in omega (arith, q)
 
-  pub not-budget-early : {budget x y : ℕ} {es : List Event} {z : State} → SafeState t ix row id p i ops ls fs rs st n → OpOf t row ops subtraction x y → x < y → Moments t ix (suc budget) here-is es z (stopped budgetSpent) → ⊥
-  not-budget-early {x} {y} r o l m = let e = stops-now t ix row id p i ops ls fs rs st n r (below-zero (x, y, o, l)) m .2 in let q : budgetSpent ≡ belowZero = cc (e) in omega (arith, q)
+  pub not-budget-early : {budget x y : ℕ} {es : List Event} {z : State} → SafeState t ix row id p i ops ls fs rs st n → OpOf (rowAt t row) ops subtraction x y → x < y → Moments t ix (suc budget) here-is es z (stopped 31) → ⊥
+  not-budget-early {x} {y} r o l m = let e = stops-now t ix row id p i ops ls fs rs st n r (below-zero (x, y, o, l)) m .2 in let q : _≡_ {A = ℕ} 31 39 = cc (e) in omega (arith, q)
+
+  pub not-budget-left : {budget : ℕ} {z : State} → Moments t ix (suc budget) here-is (moment here-is row (stopped 31) ∷ []) z (stopped 31) → ⊥
+  not-budget-left m = omega (arith, spent-only t ix m refl)
 
   -- It is done, and leads to the state after
   module _ (fs′ : List Frame) (rs′ : List Cell) (st′ : List Entry) (n′ : ℕ) where
     abbrev pub Done : Type 0
     Done = Safe t ix (moment here-is row (next (state fs′ rs′ st′ n′)))
 
-    done-free : {k : ℕ} → Done → Cause t row ops (frame id p i ops ls ∷ fs) rs st k → ⊥
+    done-free : {k : ℕ} → Done → Cause (rowAt t row) ops (frame id p i ops ls ∷ fs) rs st k → ⊥
     done-free {k} (safe s (goes u a b c d g)) q = u k q
 
     calculates-of : Done → Calculates t ix row id p i ops ls fs rs st fs′ rs′ st′
     calculates-of (safe s (goes u a b c d g)) = g
 
     -- a difference below zero, or a sum above 64 bits, that goes on, as one that wraps around does
-    pub not-wrapped-below : {x y : ℕ} → OpOf t row ops subtraction x y → x < y → Done → ⊥
+    pub not-wrapped-below : {x y : ℕ} → OpOf (rowAt t row) ops subtraction x y → x < y → Done → ⊥
     not-wrapped-below {x} {y} o l s = done-free s (below-zero (x, y, o, l))
 
-    pub not-wrapped-above : OpOf t row ops addition 18446744073709551615 1 → Done → ⊥
+    pub not-wrapped-above : OpOf (rowAt t row) ops addition 18446744073709551615 1 → Done → ⊥
     not-wrapped-above o s = done-free s (too-large (18446744073709551615, 1, o, omega arith))
 
     -- another number is pushed than the difference; the one of the operands turned round for instance
-    pub not-miscalculated : {z j : ℕ} {rest : List Value} {ls′ : List (Option Value)} {gs : List Frame} → OpOf t row ops subtraction 7 5 → fs′ ≡ frame id p j (num z ∷ rest) ls′ ∷ gs → z ≢ 2 → Done → ⊥
+    pub not-miscalculated : {z j : ℕ} {rest : List Value} {ls′ : List (Option Value)} {gs : List Frame} → OpOf (rowAt t row) ops subtraction 7 5 → fs′ ≡ frame id p j (num z ∷ rest) ls′ ∷ gs → z ≢ 2 → Done → ⊥
     not-miscalculated {z} o e f s =
         let c = calculates-of s (o .0) in
         let a = o .2 .1 in
@@ -117,7 +120,7 @@ module _ (t : List ℕ) (ix : Index) (row id p i : ℕ) (ops : List Value) (ls :
         op-of x y z q c = rw q at c
 
     -- Op changes a record or an entry
-    pub not-calculated-besides : {b x y : ℕ} → OpOf t row ops b x y → (rs′ ≢ rs) ⊎ (st′ ≢ st) → Done → ⊥
+    pub not-calculated-besides : {b x y : ℕ} → OpOf (rowAt t row) ops b x y → (rs′ ≢ rs) ⊎ (st′ ≢ st) → Done → ⊥
     not-calculated-besides o f s = let c = calculates-of s (o .0) in ⊎-elim (λ g. g (c .7)) (λ g. g (c .8)) f
 
     -- the other limits: a key that is taken, none that is there, a stale reference, a 17th frame, a 129th live record, a 65th entry
@@ -129,6 +132,9 @@ module _ (t : List ℕ) (ix : Index) (row id p i : ℕ) (ops : List Value) (ls :
 
     pub not-read-unpacked : {w : Bool} {c y j : ℕ} {rest : List Value} → rowAt t row .a ≡ opReadRef → ops ≡ refer w (toField c y j) ∷ rest → nth rs c ≡ some (gone y) → Done → ⊥
     not-read-unpacked e q m s = done-free s (stale-there (inl e) q (unpacked of-field m))
+
+    pub not-read-empty : {w : Bool} {l k : ℕ} {rest : List Value} → rowAt t row .a ≡ opReadRef → ops ≡ refer w (toLocal id l k) ∷ rest → nth ls l ≡ some none → Done → ⊥
+    not-read-empty e q m s = done-free s (stale-there (inl e) q (is-empty (List·Memᴰ·head refl) (λ v z. clash (cc (m, z)))))
 
     pub not-written-returned : {w : Bool} {f l k x : ℕ} {rest : List Value} → rowAt t row .a ≡ opWriteRef → ops ≡ refer w (toLocal f l k) ∷ num x ∷ rest
         → ((p′ i′ : ℕ) (ops′ : List Value) (ls′ : List (Option Value)) → ¬ (Mem (frame f p′ i′ ops′ ls′) (frame id p i ops ls ∷ fs))) → Done → ⊥

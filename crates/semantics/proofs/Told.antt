@@ -1,6 +1,6 @@
 -- The rule's text tells the calls and the store.
 use Prim.Native.Nat.{ℕ, zero, suc, _+_, _<_, _≤_}
-use mathlib.Core.Path.{_≡_, refl}
+use mathlib.Core.Path.{_≡_, refl, sym}
 use mathlib.Core.List.{List, [], _∷_, _++_}
 use mathlib.Core.Logic.{⊎-elim}
 use mathlib.Core.Option.{some}
@@ -16,7 +16,7 @@ use Rattle.acceptance.specs.Judged.{Bytes, Judged}
 use Rattle.acceptance.proofs.Judged.{judged}
 use Rattle.acceptance.proofs.Rows.{parts, code-place}
 use Rattle.arithmetic.specs.Arithmetic.{pastNumbers}
-use Rattle.semantics.specs.Machine.{Value, num, obj, refer, Cell, here, Entry, entry, Frame, frame, State, state, Outcome, next, finished, stopped, stuck}
+use Rattle.semantics.specs.Machine.{Value, num, obj, refer, Cell, here, Entry, entry, Frame, State, state, Outcome, next, finished, stopped, stuck}
 use Rattle.semantics.specs.Calls.{listOf, callsOf}
 use Rattle.semantics.specs.History.{Base, base, Event, moment, ended, rowUp, history, nothing, lastBase}
 use Rattle.semantics.specs.Ascii.{ascii}
@@ -31,10 +31,9 @@ use Rattle.semantics.proofs.Steps.{StateOk, DidAt}
 use Rattle.semantics.proofs.Every.{chained}
 use Rattle.semantics.proofs.Callable.{list-rows, good-calls}
 use Rattle.semantics.proofs.Owning.{cell-here, nested, plain, entries-typed}
-use Rattle.semantics.proofs.Outcomes.{stops}
-use Rattle.semantics.proofs.Stops.{cause-few}
+use Rattle.semantics.proofs.Causes.{stop-few}
 use Rattle.semantics.proofs.Handing.{all-in, all-out}
-use Rattle.semantics.proofs.Invariant.{BaseOk, MomentOk, EndOk, EventOk, HandedAt, handed-at, outcome-ok, chain-ok, nothing-ok}
+use Rattle.semantics.proofs.Invariant.{BaseOk, MomentOk, EndOk, EventOk, outcome-ok, chain-ok, nothing-ok}
 use Rattle.semantics.proofs.Decimal.{decimal-said}
 use Rattle.semantics.proofs.Order.{each-once, rearranged-in, rises}
 use Rattle.semantics.proofs.Ends.{ends, history-ends, history-last, calls-in-rows}
@@ -113,11 +112,6 @@ module _ (t : List ℕ) (J : Judged t (indexOf t)) where
       go : (fs : List Frame) → Stack t (indexOf t) (v .T) (v .W) fs → rowUp t (indexOf t) (state fs h st n) < maxRows
       go fs (runs {p} {i} f s) = let few = J .procedure p (f .there) .low in omega (arith, code-place t p (f .there) few i (f .inside), parts t p (f .there) few)
 
-  -- the number of a stop has 64 bits
-  stop-few : (s : State) (k : ℕ) → HandedAt t J s (stopped k) → k < pastNumbers
-  stop-few (state [] h st n) k q = absurd q
-  stop-few (state (frame id p i ops ls ∷ fs) h st n) k (stops c) = cause-few c
-
   ends-as : (before : Base) (s : State) (row : ℕ) (o : Outcome) (after : Base) → EndOk t J before s row o after → EndsAs row o
   ends-as before s row o after m = go o (m .over) (outcome-ok t J s row o (m .last)) (m .last)
     where
@@ -125,7 +119,7 @@ module _ (t : List ℕ) (J : Judged t (indexOf t)) where
       go (next s′) f k w = absurd (f s′ refl)
       go (finished vs (state fs h st n)) f k w = k .2
       go (stopped j) f k w =
-          let few : j < pastNumbers = ⊎-elim (λ e. stop-few s j (rw (← e) at (handed-at t J s (w .holds) (w .within)))) (λ e. let q : j ≡ 31 = cc in omega (arith, q)) (w .did) in
+          let few : j < pastNumbers = ⊎-elim (λ e. stop-few t (indexOf t) s j (sym e)) (λ e. let q : j ≡ 31 = cc in omega (arith, q)) (w .did) in
           (few, rw (w .at) (row-few s (w .holds)))
       go stuck f k w = absurd k
 

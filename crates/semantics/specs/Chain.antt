@@ -13,11 +13,11 @@ use Rattle.semantics.specs.Claim.{All, Safe}
 -- in a table with this index
 module _ (t : List ℕ) (ix : Index) where
   -- A call's moments from state s on, with so much budget: at each one `step` is done, the next one stands where it leads, and none is left out up to the
-  -- last, in state z with outcome o
+  -- last, in state z with outcome o. It stops with 31 where the budget is spent and nowhere else
   pub data Moments : ℕ → State → List Event → State → Outcome → Type 0 where
     spent : {s : State} → Moments 0 s (moment s (rowUp t ix s) (stopped budgetSpent) ∷ []) s (stopped budgetSpent)
     steps : {budget : ℕ} {s s′ z : State} {o : Outcome} {es : List Event} → step t ix s ≡ next s′ → Moments budget s′ es z o → Moments (suc budget) s (moment s (rowUp t ix s) (next s′) ∷ es) z o
-    done : {budget : ℕ} {s : State} {o : Outcome} → step t ix s ≡ o → ((s′ : State) → o ≡ next s′ → ⊥) → Moments (suc budget) s (moment s (rowUp t ix s) o ∷ []) s o
+    done : {budget : ℕ} {s : State} {o : Outcome} → step t ix s ≡ o → ((s′ : State) → o ≡ next s′ → ⊥) → (o ≡ stopped budgetSpent → ⊥) → Moments (suc budget) s (moment s (rowUp t ix s) o ∷ []) s o
 
   -- The calls of a list one after the other: each begins with its procedure, arguments and budget, from what the one before left
   pub data Chained : List Call → Base → List Event → Type 0 where

@@ -160,6 +160,15 @@ module _ (t : List ℕ) where
         → Makes row id p ops fs rs st (refer true (toRecord c (rowAt t row .b)))
     frozen-made : {r : Ref} {under : List Value} → rowAt t row .a ≡ opFreeze → ops ≡ refer true r ∷ under → Makes row id p ops fs rs st (refer false r)
 
+  -- 7. The instruction of a row has no cause to stop
+  abbrev pub Unhindered : (row : ℕ) → List Value → List Frame → List Cell → List Entry → Type 0
+  Unhindered row ops fs rs st = (k : ℕ) → ¬ (Cause (rowAt t row) ops fs rs st k)
+
+  -- stop k, at a row: 31, of which `Chain` says when, or the number of a cause that the instruction has
+  abbrev pub StopsAt : (row : ℕ) → State → ℕ → Type 0
+  StopsAt row (state [] rs st n) k = ⊥
+  StopsAt row (state (frame id p i ops ls ∷ fs) rs st n) k = (k ≡ budgetSpent) ⊎ Cause (rowAt t row) ops (frame id p i ops ls ∷ fs) rs st k
+
   -- of frames with this index
   module _ (ix : Index) where
     -- what the instruction that comes up takes, and what lies under it
@@ -219,15 +228,6 @@ module _ (t : List ℕ) where
     abbrev pub Calculates : (row id p i : ℕ) → List Value → List (Option Value) → List Frame → List Cell → List Entry → List Frame → List Cell → List Entry → Type 0
     Calculates row id p i ops ls fs rs st fs′ rs′ st′ =
         rowAt t row .a ≡ opOp → (x y z : ℕ) × (under : List Value) × (ops ≡ num y ∷ num x ∷ under) × (calculation (rowAt t row .b) x y ≡ Gives z) × (fs′ ≡ frame id p (i + 1) (num z ∷ under) ls ∷ fs) × (rs′ ≡ rs) × (st′ ≡ st)
-
-    -- 7. The instruction of a row has no cause to stop
-    abbrev pub Unhindered : (row : ℕ) → List Value → List Frame → List Cell → List Entry → Type 0
-    Unhindered row ops fs rs st = (k : ℕ) → ¬ (Cause t row ops fs rs st k)
-
-    -- stop k, at a row: the budget is spent, or the instruction has this cause to stop
-    abbrev pub StopsAt : (row : ℕ) → State → ℕ → Type 0
-    StopsAt row (state [] rs st n) k = ⊥
-    StopsAt row (state (frame id p i ops ls ∷ fs) rs st n) k = (k ≡ budgetSpent) ⊎ Cause t row ops (frame id p i ops ls ∷ fs) rs st k
 
     -- what comes of it: a step, which nothing hinders; the Ret of the first frame, with exactly what it takes; or a stop, for its cause
     pub data SafeOutcome (row id p i : ℕ) (ops : List Value) (ls : List (Option Value)) (fs : List Frame) (rs : List Cell) (st : List Entry) (n : ℕ) : Outcome → Type 0 where
