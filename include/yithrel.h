@@ -77,9 +77,13 @@ uint64_t yithrel_judge(const uint8_t *table, size_t table_len);
  * I counts from 0. Words stand one space apart, each line ends with a newline (byte 10), and no null byte follows. A record without fields stands as
  * (TYPE).
  *
- *   31 budget spent              34 no such key                  37 a 129th live record
- *   32 sum above 64 bits         35 reference to what is gone    38 a 65th store entry
- *   33 key taken                 36 a 17th frame                 39 difference below zero
+ *   31 budget spent              36 a 17th frame
+ *   32 sum above 64 bits         37 a 129th live record
+ *   33 key taken                 38 a 65th store entry
+ *   34 no such key               39 difference below zero
+ *   35 a reference whose record was unpacked, whose frame has returned, or whose local is empty
+ *
+ * 31 comes before every other stop, 33 before 38.
  *
  * Nothing may write table or list while the call runs, and the buffers lent to one call may not overlap.
  *

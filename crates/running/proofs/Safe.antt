@@ -1,9 +1,10 @@
 -- Demand 3 for what runs: where a run answers a length, the buffer begins with the text that tells the calls and the store, and every event of the
 -- calls, none left out, is safe.
-use Prim.Native.Nat.{ℕ}
+use Prim.Native.Nat.{ℕ, suc}
 use mathlib.Core.Path.{_≡_, refl, sym, ap, subst}
 use mathlib.Core.Bool.{Bool, true, false, cond}
 use mathlib.Core.List.{List, [], _∷_, _++_}
+use mathlib.Core.Logic.{_↔_}
 use lib.Dec.{ltb}
 use lib.ListN.{length, drop}
 use Rattle.table.specs.declared.Verdict.{Verdict}
@@ -26,6 +27,8 @@ use Rattle.semantics.proofs.Every.{only-chain}
 use Rattle.semantics.proofs.Told.{text-told}
 use Rattle.semantics.proofs.OneText.{one-text}
 use Rattle.semantics.proofs.Lines.{StopLine, told-line}
+use Rattle.semantics.proofs.EndOf.{EndOf, end-of}
+use Rattle.semantics.proofs.Stops.{spent-only, spent-then}
 
 -- what was run: the text stands in the buffer, it tells each call and each entry of the store, in order, and the history that it tells is that of the
 -- list's calls, with every event safe
@@ -65,15 +68,28 @@ run-fixed t l buffer size bt bl e es text c w =
     let same : text ≡ textOf (historyOf t l) = one-text told (s .told) in
     rw same (s .whole, s .text)
 
--- A call that stopped, with k at row r: its line stands in the text after those of the calls before it and tells both, and the instruction at r had that cause to
--- stop, or the budget was spent
+-- A call that stopped with k at row r, after the events `front`
+pub record StoppedCall (t l buffer : List ℕ) (front : List Event) (before after : Base) (s : State) (r k : ℕ) : Type 0 where
+  -- its line stands in the buffer, after those of the calls before it, and tells k and r
+  pub line : StopLine 0 front r k ((runOf t l buffer) .buffer)
+  -- it is that call of the list, and (s, r, k) is its last moment
+  pub end : EndOf t (indexOf t) (callsOf l) front before s r (stopped k) after
+  -- the instruction in row r had this cause to stop, or k is 31, exactly if the budget was spent
+  pub why : StopsAt t r s k
+  pub budget : (k ≡ 31) ↔ (length (end .own) ≡ suc (end .budget))
+
 pub run-stops : (t l buffer : List ℕ) (size : ℕ) → Bytes t → Bytes l → (runOf t l buffer) .answer ≡ Accepted size
-    → (front rest : List Event) (before after : Base) (s : State) (r k : ℕ) → historyOf t l ≡ front ++ (ended before s r (stopped k) after ∷ rest)
-    → StopLine 0 front r k (textOf (historyOf t l)) × StopsAt t r s k
+    → (front rest : List Event) (before after : Base) (s : State) (r k : ℕ) → historyOf t l ≡ front ++ (ended before s r (stopped k) after ∷ rest) → StoppedCall t l buffer front before after s r k
 run-stops t l buffer size bt bl e front rest before after s r k h =
     let run = run-safe t l buffer size bt bl e in
     let held : All (Safe t (indexOf t)) (front ++ (ended before s r (stopped k) after ∷ rest)) = subst (λ (es : List Event). All (Safe t (indexOf t)) es) h (run .claimed .safe) in
-    (told-line before after s r k rest front (historyOf t l) (textOf (historyOf t l)) (run .told) h, why (there front held))
+    let end = end-of t (indexOf t) (run .claimed .chained) front rest before after s r (stopped k) h in
+    record {
+      line = told-line before after s r k rest front (historyOf t l) (textOf (historyOf t l)) (drop size buffer) ((runOf t l buffer) .buffer) (run .told) h (run .text);
+      end = end;
+      why = why (there front held);
+      budget = ((λ q. spent-only t (indexOf t) (end .moments) (ap stopped q)), λ n. let z = spent-then t (indexOf t) (end .moments) n in cc (z));
+    }
   where
     there : (front : List Event) → All (Safe t (indexOf t)) (front ++ (ended before s r (stopped k) after ∷ rest)) → Safe t (indexOf t) (ended before s r (stopped k) after)
     there [] (also q a) = q

@@ -23,6 +23,7 @@ use Rattle.semantics.specs.Words.{procedureCount, kindsIn, bodyOf, instr
 use Rattle.semantics.specs.Claim.{Sound, Rising, IsReference, Labelled, Typed, typed, Linked, first, under as at-call, Makes, local-made, field-made, nested-made, entry-made, frozen-made, Takes, Handed, goesOn, writes, calls, returns, Origin, SafeState, goes, Safe, safe}
 use Rattle.semantics.specs.Chain.{Moments, spent, steps, done, Chained, no-call, one-call}
 use Rattle.semantics.proofs.Changes.{clash}
+use Rattle.semantics.proofs.EndOf.{tail-same, past}
 use Rattle.semantics.proofs.Sounds.{nth-set, head-of, found-there}
 use Rattle.semantics.proofs.Sorts.{as-large}
 use Rattle.semantics.proofs.Handing.{taken-shape}
@@ -68,9 +69,6 @@ rowOf t (frame id p i ops ls) = instructionRow t p i
 
 head-same : {A : Type 0} {x y : A} {xs ys : List A} → x ∷ xs ≡ y ∷ ys → x ≡ y
 head-same e = cc
-
-tail-same : {A : Type 0} {x y : A} {xs ys : List A} → x ∷ xs ≡ y ∷ ys → xs ≡ ys
-tail-same e = cc
 
 -- what a frame holds is what it says; a local's value is of the declared kind
 pub label : {t : List ℕ} {fs : List Frame} {rs : List Cell} {n : ℕ} {f : Frame} → Typed t fs rs n f → (v : Value) → Holds f v → Labelled t fs rs n v
@@ -385,24 +383,14 @@ module _ (t : List ℕ) (ix : Index) where
   starts (steps {s′} {es} e m) = (next s′, es, refl)
   starts {o} (done e f h) = (o, [], refl)
 
-  -- a place in the events of a call and what follows them is one in the call's, or in what follows
-  in-rest : {budget : ℕ} {s z : State} {o : Outcome} {es : List Event} → Moments t ix budget s es z o → (rest front : List Event) (b : Base) (z′ : State) (r : ℕ) (o′ : Outcome) (b′ : Base) (more : List Event)
-      → es ++ rest ≡ front ++ (ended b z′ r o′ b′ ∷ more) → (f : List Event) × (rest ≡ f ++ (ended b z′ r o′ b′ ∷ more))
-  in-rest spent rest [] b z′ r o′ b′ more e = absurd (clash (cc))
-  in-rest spent rest (x ∷ f) b z′ r o′ b′ more e = (f, tail-same e)
-  in-rest (steps d m) rest [] b z′ r o′ b′ more e = absurd (clash (cc))
-  in-rest (steps d m) rest (x ∷ f) b z′ r o′ b′ more e = in-rest m rest f b z′ r o′ b′ more (tail-same e)
-  in-rest (done d g h) rest [] b z′ r o′ b′ more e = absurd (clash (cc))
-  in-rest (done d g h) rest (x ∷ f) b z′ r o′ b′ more e = (f, tail-same e)
-
   -- what stands after the end of a call is chained from what it left
   onwards : {cs : List Call} {b : Base} {l : List Event} → Chained t ix cs b l → (front : List Event) (b₁ : Base) (z : State) (r : ℕ) (o : Outcome) (b₂ : Base) (more : List Event) → l ≡ front ++ (ended b₁ z r o b₂ ∷ more)
       → (cs′ : List Call) × Chained t ix cs′ b₂ more
   onwards no-call [] b₁ z r o b₂ more e = absurd (clash (cc))
   onwards no-call (x ∷ front) b₁ z r o b₂ more e = absurd (clash (cc))
   onwards (one-call {cs} {b} {more = rest} {z = y} {o = w} m c) front b₁ z r o b₂ more e =
-      let k = in-rest m (ended b y (rowUp t ix y) w (afterwards b y w) ∷ rest) front b₁ z r o b₂ more e in
-      go (k .0) (k .1) (λ f q. onwards c f b₁ z r o b₂ more q)
+      let k = past t ix m (ended b y (rowUp t ix y) w (afterwards b y w) ∷ rest) front b₁ z r o b₂ more e in
+      go (k .0) (k .3) (λ f q. onwards c f b₁ z r o b₂ more q)
     where
       go : (f : List Event) → ended b y (rowUp t ix y) w (afterwards b y w) ∷ rest ≡ f ++ (ended b₁ z r o b₂ ∷ more) → ((f : List Event) → rest ≡ f ++ (ended b₁ z r o b₂ ∷ more) → (cs′ : List Call) × Chained t ix cs′ b₂ more)
           → (cs′ : List Call) × Chained t ix cs′ b₂ more

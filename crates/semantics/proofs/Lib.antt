@@ -32,6 +32,7 @@ pub mod Order
 pub mod Told
 pub mod OneText
 pub mod Lines
+pub mod EndOf
 pub mod Lengths
 pub mod Consequences
 pub mod ReadOnly

@@ -55,19 +55,23 @@ module _ (before after : Base) (s : State) (r k : ℕ) (rest : List Event) where
   stop-line i (ended b z q o a ∷ front) (is-stopped {w} {u} {v} d e f c) =
       behind i _ front (stopText w u v) _ (λ x y. is-stopped d e f y) refl (stop-line (i + 1) front c)
 
-  -- in a text that tells a history
-  pub told-line : (front es : List Event) (text : List ℕ) → Told es text → es ≡ front ++ (ended before s r (stopped k) after ∷ rest) → StopLine 0 front r k text
-  told-line front es text w e =
+  -- it stands in what begins with the text
+  longer : (front : List Event) (text old : List ℕ) → StopLine 0 front r k text → StopLine 0 front r k (text ++ old)
+  longer front text old l = record {
+    earlier = l .earlier;
+    lines = l .lines;
+    call = l .call;
+    numbered = l .numbered;
+    stop = l .stop;
+    stopped-with = l .stopped-with;
+    row = l .row;
+    at-row = l .at-row;
+    later = l .later ++ old;
+    stands = ap (λ (x : List ℕ). x ++ old) (l .stands) ∙ append-assoc (l .earlier) (stopText (l .call) (l .stop) (l .row) ++ l .later) old ∙ ap (λ (x : List ℕ). l .earlier ++ x) (append-assoc (stopText (l .call) (l .stop) (l .row)) (l .later) old);
+  }
+
+  -- in a buffer that begins with the text that tells a history
+  pub told-line : (front es : List Event) (text old buffer : List ℕ) → Told es text → es ≡ front ++ (ended before s r (stopped k) after ∷ rest) → buffer ≡ text ++ old → StopLine 0 front r k buffer
+  told-line front es text old buffer w e b =
       let l = stop-line 0 front (rw e at (w .called)) in
-      record {
-        earlier = l .earlier;
-        lines = l .lines;
-        call = l .call;
-        numbered = l .numbered;
-        stop = l .stop;
-        stopped-with = l .stopped-with;
-        row = l .row;
-        at-row = l .at-row;
-        later = l .later ++ w .lines;
-        stands = w .whole ∙ ap (λ (x : List ℕ). x ++ w .lines) (l .stands) ∙ append-assoc (l .earlier) (stopText (l .call) (l .stop) (l .row) ++ l .later) (w .lines) ∙ ap (λ (x : List ℕ). l .earlier ++ x) (append-assoc (stopText (l .call) (l .stop) (l .row)) (l .later) (w .lines));
-      }
+      rw b (longer front text old (rw (w .whole) (longer front (w .calls) (w .lines) l)))

@@ -1,6 +1,6 @@
 -- Wrong stops are not safe, nor is going on where there is a cause to stop: the wrong machines that these clauses of the claim shut out.
-use Prim.Native.Nat.{ℕ, suc, _<_}
-use mathlib.Core.Path.{_≡_, refl}
+use Prim.Native.Nat.{ℕ, suc, _<_, _≤_}
+use mathlib.Core.Path.{_≡_, refl, ap, sym, _∙_}
 use mathlib.Core.List.{List, [], _∷_, List·Memᴰ·head}
 use mathlib.Core.Bool.{Bool}
 use mathlib.Core.Logic.{_⊎_, inl, inr, ⊎-elim, _≢_}
@@ -77,6 +77,28 @@ module _ (t : List ℕ) (ix : Index) (row id p i : ℕ) (ops : List Value) (ls :
   pub not-at-comparison : {k x y : ℕ} → OpOf (rowAt t row) ops isLess x y → k ≢ 31 → StopsWith k → ⊥
   not-at-comparison o f s = f (compares t ix row id p i ops ls fs rs st n isLess (omega arith) o (stops-of s))
 
+  -- 36, 37 or 38 below the limit
+  full-of : {k : ℕ} → StopsAt t row here-is k → ((k ≡ 36) → 16 ≤ suc (length fs)) × ((k ≡ 37) → 128 ≤ liveCount rs) × ((k ≡ 38) → 64 ≤ length st)
+  full-of (inl e) = ((λ q. absurd (omega (arith, e, q))), (λ q. absurd (omega (arith, e, q))), λ q. absurd (omega (arith, e, q)))
+  full-of (inr (too-large o)) = ((λ q. absurd (omega arith)), (λ q. absurd (omega arith)), λ q. absurd (omega arith))
+  full-of (inr (below-zero o)) = ((λ q. absurd (omega arith)), (λ q. absurd (omega arith)), λ q. absurd (omega arith))
+  full-of (inr (key-taken e q m)) = ((λ q. absurd (omega arith)), (λ q. absurd (omega arith)), λ q. absurd (omega arith))
+  full-of (inr (no-such-key e q m)) = ((λ q. absurd (omega arith)), (λ q. absurd (omega arith)), λ q. absurd (omega arith))
+  full-of (inr (stale-there e q m)) = ((λ q. absurd (omega arith)), (λ q. absurd (omega arith)), λ q. absurd (omega arith))
+  full-of (inr (stale-written e q m)) = ((λ q. absurd (omega arith)), (λ q. absurd (omega arith)), λ q. absurd (omega arith))
+  full-of (inr (frames-full e l)) = ((λ q. l), (λ q. absurd (omega arith)), λ q. absurd (omega arith))
+  full-of (inr (records-full e l)) = ((λ q. absurd (omega arith)), (λ q. l), λ q. absurd (omega arith))
+  full-of (inr (entries-full e q m l)) = ((λ q. absurd (omega arith)), (λ q. absurd (omega arith)), λ q. l)
+
+  pub not-at-16th-frame : length fs < 15 → StopsWith 36 → ⊥
+  not-at-16th-frame l s = omega (arith, l, full-of (stops-of s) .0 refl)
+
+  pub not-at-128th-record : liveCount rs < 128 → StopsWith 37 → ⊥
+  not-at-128th-record l s = omega (arith, l, full-of (stops-of s) .1 refl)
+
+  pub not-at-64th-entry : length st < 64 → StopsWith 38 → ⊥
+  not-at-64th-entry l s = omega (arith, l, full-of (stops-of s) .2 refl)
+
   -- In a chain: 39 where the budget is spent; 31 where it is not, with a difference below zero or whatever else
   pub not-before-budget : {es : List Event} {z : State} → Moments t ix 0 here-is es z (stopped 39) → ⊥
   not-before-budget m = let e = spent-first t ix m .2 in let q : _≡_ {A = ℕ} 39 31 = cc (e) in omega (arith, q)
@@ -105,19 +127,29 @@ module _ (t : List ℕ) (ix : Index) (row id p i : ℕ) (ops : List Value) (ls :
     pub not-wrapped-above : OpOf (rowAt t row) ops addition 18446744073709551615 1 → Done → ⊥
     not-wrapped-above o s = done-free s (too-large (18446744073709551615, 1, o, omega arith))
 
-    -- another number is pushed than the difference; the one of the operands turned round for instance
-    pub not-miscalculated : {z j : ℕ} {rest : List Value} {ls′ : List (Option Value)} {gs : List Frame} → OpOf (rowAt t row) ops subtraction 7 5 → fs′ ≡ frame id p j (num z ∷ rest) ls′ ∷ gs → z ≢ 2 → Done → ⊥
-    not-miscalculated {z} o e f s =
+    -- another number is pushed than the sum, or than the difference, the one of the operands turned round for instance; two equal numbers are told apart; less is told the
+    -- other way round
+    result-of : (b : ℕ) {x y z j : ℕ} {rest : List Value} {ls′ : List (Option Value)} {gs : List Frame} → OpOf (rowAt t row) ops b x y → fs′ ≡ frame id p j (num z ∷ rest) ls′ ∷ gs → Done → calculation b x y ≡ Gives z
+    result-of b {x} {y} {z} o e s =
         let c = calculates-of s (o .0) in
         let a = o .2 .1 in
-        let b = c .4 in
-        let g = c .6 in
-        let w : z ≡ c .2 = cc (e, g) in
-        let d = Range.difference (c .0) (c .1) (c .2) .0 (op-of (c .0) (c .1) (c .2) (o .1) (c .5)) in
-        f (omega (arith, w, d, same-first a b, same-second a b))
+        let w : c .2 ≡ z = cc (e, c .6) in
+        is (c .0) (c .1) (c .2) (o .1) (same-first (c .4) a) (same-second (c .4) a) w (c .5)
       where
-        op-of : (x y z : ℕ) → rowAt t row .b ≡ subtraction → calculation (rowAt t row .b) x y ≡ Gives z → calculation subtraction x y ≡ Gives z
-        op-of x y z q c = rw q at c
+        is : (x′ y′ z′ : ℕ) → rowAt t row .b ≡ b → x′ ≡ x → y′ ≡ y → z′ ≡ z → calculation (rowAt t row .b) x′ y′ ≡ Gives z′ → calculation b x y ≡ Gives z
+        is x′ y′ z′ u v w k h = sym (ap (λ (q : ℕ). calculation q x y) u) ∙ sym (ap (λ (q : ℕ). calculation (rowAt t row .b) q y) v) ∙ sym (ap (λ (q : ℕ). calculation (rowAt t row .b) x′ q) w) ∙ h ∙ ap (λ (q : ℕ). Gives q) k
+
+    pub not-miscalculated : {z j : ℕ} {rest : List Value} {ls′ : List (Option Value)} {gs : List Frame} → OpOf (rowAt t row) ops subtraction 7 5 → fs′ ≡ frame id p j (num z ∷ rest) ls′ ∷ gs → z ≢ 2 → Done → ⊥
+    not-miscalculated {z} o e f s = f (omega (arith, Range.difference 7 5 z .0 (result-of subtraction o e s)))
+
+    pub not-missummed : {z j : ℕ} {rest : List Value} {ls′ : List (Option Value)} {gs : List Frame} → OpOf (rowAt t row) ops addition 7 5 → fs′ ≡ frame id p j (num z ∷ rest) ls′ ∷ gs → z ≢ 12 → Done → ⊥
+    not-missummed {z} o e f s = let d = Range.sum 7 5 z .0 (result-of addition o e s) in f (omega (arith, d .0))
+
+    pub not-told-apart : {x z j : ℕ} {rest : List Value} {ls′ : List (Option Value)} {gs : List Frame} → OpOf (rowAt t row) ops isEqual x x → fs′ ≡ frame id p j (num z ∷ rest) ls′ ∷ gs → z ≢ 1 → Done → ⊥
+    not-told-apart {x} {z} o e f s = ⊎-elim (λ h. f (h .1)) (λ h. h .0 refl) (Range.equal x x z .0 (result-of isEqual o e s))
+
+    pub not-less-turned : {z j : ℕ} {rest : List Value} {ls′ : List (Option Value)} {gs : List Frame} → OpOf (rowAt t row) ops isLess 5 7 → fs′ ≡ frame id p j (num z ∷ rest) ls′ ∷ gs → z ≢ 1 → Done → ⊥
+    not-less-turned {z} o e f s = ⊎-elim (λ h. f (h .1)) (λ h. omega (arith, h .0)) (Range.less 5 7 z .0 (result-of isLess o e s))
 
     -- Op changes a record or an entry
     pub not-calculated-besides : {b x y : ℕ} → OpOf (rowAt t row) ops b x y → (rs′ ≢ rs) ⊎ (st′ ≢ st) → Done → ⊥
