@@ -261,8 +261,8 @@ rowsTill =
     ∷ mvLoc 0 ∷ borrowGlobal 0 ∷ borrowFld 0 0 ∷ writeRef ∷ ret
     ∷ public ∷ parameter 0 0 ∷ parameter 0 0
     ∷ cpLoc 0 ∷ borrowGlobal 0 ∷ borrowFld 0 0 ∷ readRef ∷ mvLoc 1 ∷ add
-    ∷ mvLoc 0 ∷ borrowGlobal 0 ∷ borrowFld 0 0 ∷ writeRef ∷ ret
-    ∷ guest ∷ public ∷ parameter 0 0 ∷ parameter 0 0 ∷ parameter 0 0
+    ∷ mvLoc 0 ∷ borrowGlobal 0 ∷ borrowFld 0 0 ∷ writeRef ∷ ret ∷ guest
+    ∷ public ∷ parameter 0 0 ∷ parameter 0 0 ∷ parameter 0 0
     ∷ cpLoc 0 ∷ mvLoc 1 ∷ callProcedure 1 ∷ mvLoc 0 ∷ mvLoc 2 ∷ callProcedure 1 ∷ ret ∷ [])
 
 -- A credit of 500 under 7. 300 and 201 are too much together; all 500; then 1 is too much, with a budget of 100, 6 and 5, and 0 is not; 2^64 - 1 go in, and
