@@ -98,6 +98,20 @@ static void run_till(void)
     expect_run("2^64 - 1 more", n, k, YITHREL_MIN_TEXT, 0, sizeof added - 1, added);
 }
 
+static void run_helped(void)
+{
+    static const char lines[] = "call 0 done\ncall 1 done\ncall 2 done 60\ncall 3 done\ncall 4 stop 31 row 23\ncall 5 done 9\nstore 0 7 9\n";
+    size_t n = load("examples/helped.bin");
+    size_t k = load_into(list, sizeof list, "examples/helped-calls.bin");
+    expect("helpers", table, n, 0, 46);
+    expect_run("written through helpers", n, k, YITHREL_MIN_TEXT, 0, sizeof lines - 1, lines);
+    table[10 * 16 + 1] = 1;
+    expect("returned by a public procedure", table, n, 14, 16);
+    table[10 * 16 + 1] = 0;
+    table[17 * 16 + 1] = 1;
+    expect("given to a public procedure", table, n, 13, 30);
+}
+
 int main(void)
 {
     size_t n = load("examples/credit.bin");
@@ -122,5 +136,6 @@ int main(void)
     expect("2,049 rows", table, 2049 * 16, 1, 0);
     run_credits();
     run_till();
+    run_helped();
     return failures != 0;
 }

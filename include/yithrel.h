@@ -34,8 +34,8 @@ extern "C" {
  *   11  MvLoc, CpLoc or BorrowLoc on a local that some walk leaves empty
  *   12  StLoc over a record, or Ret with a record left, on some walk
  * leaks
- *   13  marked reference given to a Call
- *   14  marked reference returned
+ *   13  marked reference given to a public procedure, or to one of another module
+ *   14  marked reference returned by a public procedure
  *
  * The passes stand in their order: each goes over the whole table, and only if those before it accept. A pass tells the lowest row that it refuses, and of
  * several causes on that row the first in this list.

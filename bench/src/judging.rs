@@ -1,6 +1,7 @@
 //! The judge against the reference judge: in speed, on tables of several sizes, and in its answers, on made tables.
 
 use crate::proved;
+use reference::gen::rounds as marks;
 use reference::{refusal_lines, TABLE_PASSES};
 use std::collections::BTreeMap;
 use std::time::Instant;
@@ -88,6 +89,31 @@ fn times(table: &[u8]) -> (f64, f64) {
     })
 }
 
+/// The time of one call of the proved judge alone.
+fn time(table: &[u8]) -> f64 {
+    let calls = (SAMPLE / sample(proved::judge, table, 5)).max(1.0) as usize;
+    (0..SAMPLES).fold(f64::INFINITY, |least, _| least.min(sample(proved::judge, table, calls)))
+}
+
+/// Tables in which marks go through calls of helpers, beside tables of as many rows without helpers that have marks in as many locals.
+fn helpers() {
+    let tables = [
+        ("ring of 8", marks::ring(8, 16)),
+        ("ring of 28", marks::ring(28, 16)),
+        ("ring of 57", marks::ring(57, 16)),
+        ("chain of 32", marks::chain(32)),
+        ("chain of 64", marks::chain(64)),
+        ("chain of 127", marks::chain(127)),
+    ];
+    println!("{:28} {:>6} {:>12} {:>12} {:>8} {:>10}", "helpers", "rows", "proved ns", "without ns", "ratio", "ns a row");
+    for (name, table) in &tables {
+        let rows = table.len() / 16;
+        assert_eq!(proved::judge(table), rows as u64, "{name}");
+        let (with, without) = (time(table), time(&marks::plain(rows)));
+        println!("{:28} {:>6} {:>12.0} {:>12.0} {:>8.2} {:>10.1}", name, rows, with, without, with / without, with / rows as f64);
+    }
+}
+
 pub fn speed() {
     let tables = [
         ("credits, small", credits(1, 1)),
@@ -105,6 +131,7 @@ pub fn speed() {
         let (a, b) = times(table);
         println!("{:28} {:>6} {:>12.0} {:>12.0} {:>8.2} {:>10.1}", name, rows, a, b, a / b, a / rows as f64);
     }
+    helpers();
 }
 
 pub fn compare(seed: u64, count: usize) {

@@ -2,6 +2,7 @@
 
 pub mod body;
 pub mod faults;
+pub mod helpers;
 pub mod keys;
 pub mod kit;
 pub mod limits;
@@ -9,6 +10,7 @@ pub mod mutate;
 pub mod plan;
 pub mod plan_faults;
 pub mod rng;
+pub mod rounds;
 pub mod row_faults;
 pub mod runs;
 pub mod structured;

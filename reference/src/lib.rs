@@ -1,10 +1,12 @@
-//! The judge of bytecode tables and the stack machine of documents 01 and 02 (papers 1 to 4), a second time: to
+//! The judge of bytecode tables and the stack machine of documents 01 and 02 (papers 1 to 5), a second time: to
 //! compare the other implementation with; and a generator of inputs for both.
 
 pub mod arith;
 pub mod gen;
+pub mod helper_counts;
 pub mod list;
 pub mod machine;
+pub mod marks;
 mod names;
 mod operands;
 pub mod orders;

@@ -1,6 +1,7 @@
 //! The program `reference`: see README.md for its commands.
 
 use reference::gen::{runs, tables};
+use reference::helper_counts::{RunCounts, TableCounts};
 use reference::orders::StoreCounts;
 use reference::overdrawn::OverdrawnCounts;
 use reference::program::Program;
@@ -117,8 +118,8 @@ fn made_runs(seed: u64, count: u64, dir: &str) -> Result<(), String> {
     write(dir, "stdout", &expected)
 }
 
-/// How often each verdict comes among made tables, and each refusal and call's end among made runs; what stores these
-/// leave, and what overdrawn calls they have.
+/// How often each verdict comes among made tables, and each refusal and call's end among made runs; what helpers both
+/// have, what stores runs leave, and what overdrawn calls they have.
 fn histogram(seed: u64, count: u64) -> Result<(), String> {
     print(format!("{count} tables\n{}{count} runs\n{}", table_lines(seed, count), run_lines(seed, count)).as_bytes())
 }
@@ -126,17 +127,20 @@ fn histogram(seed: u64, count: u64) -> Result<(), String> {
 fn table_lines(seed: u64, count: u64) -> String {
     let mut verdicts: BTreeMap<u32, u64> = BTreeMap::new();
     let (mut freezing, mut showing) = (0, 0);
+    let mut helped = TableCounts::default();
     for number in 0..count {
         let table = tables::table(seed, number);
         let program = reference::admit(&table);
         freezing += u64::from(read_rows(&table).iter().any(|row| row.kind == kind::INSTRUCTION && row.a == op::FREEZE));
         showing += u64::from(program.as_ref().is_ok_and(shows));
+        helped.add(&table, program.as_ref().err().copied());
         *verdicts.entry(program.map_or_else(|refusal| refusal.0, |_| 0)).or_default() += 1;
     }
     let mut lines = format!("  accepted: {}\n", verdicts.get(&0).unwrap_or(&0));
     lines.push_str(&refusal_lines(&TABLE_PASSES, &verdicts));
     lines.push_str(&format!("  with Freeze: {freezing}\n"));
     lines.push_str(&format!("  accepted with a read-only parameter or result: {showing}\n"));
+    lines.push_str(&helped.lines());
     lines
 }
 
@@ -153,6 +157,7 @@ fn run_lines(seed: u64, count: u64) -> String {
     let mut calls: BTreeMap<Option<u32>, u64> = BTreeMap::new();
     let mut stores = StoreCounts::default();
     let mut overdrawn = OverdrawnCounts::default();
+    let mut helped = RunCounts::default();
     let mut through = 0;
     for number in 0..count {
         let case = runs::case(seed, number);
@@ -163,6 +168,7 @@ fn run_lines(seed: u64, count: u64) -> String {
                 call_lines(&text).for_each(|line| *calls.entry(stop_of(line)).or_default() += 1);
                 stores.add(&store);
                 overdrawn.add(&program, &list, &text);
+                helped.add(&program, &list);
             }
             Err((number, _)) => *refusals.entry(number).or_default() += 1,
         }
@@ -172,6 +178,7 @@ fn run_lines(seed: u64, count: u64) -> String {
     lines.push_str(&refusal_lines(&RUN_PASSES, &refusals));
     lines.push_str(&call_end_lines(&calls));
     lines.push_str(&overdrawn.lines());
+    lines.push_str(&helped.lines());
     lines.push_str(&stores.lines());
     lines
 }

@@ -1,10 +1,12 @@
-//! The passes "locals" (11, 12) and "leaks" (13, 14), judged over all walks.
+//! The passes "locals" (11, 12) and "leaks" (13, 14), judged over all walks. Which parameters start marked and which
+//! results of calls are marked is said by `marks`; leaks are judged under the smallest marks only.
 //!
 //! Two explorations give the same facts. `joint` follows real walk states (row, full locals, marked locals) and
 //! gives up when some row is met in too many states. `places` follows one place at a time (a local or an operand)
 //! through the graph of rows. That is exact too: which way a walk goes depends on no local, and a marked value
 //! comes from one place only, so what a walk does to one place can be followed without the others.
 
+use crate::marks::{is_helper, smallest, Marks};
 use crate::operands::block_starts;
 use crate::program::{Instr, Procedure, Program};
 use crate::Refusal;
@@ -42,9 +44,15 @@ pub struct Faults {
 }
 
 pub fn find_faults(program: &Program) -> Faults {
+    let (marks, _) = smallest(program);
+    faults_under(program, &marks)
+}
+
+/// The faults where these marks are taken to hold.
+pub fn faults_under(program: &Program, marks: &Marks) -> Faults {
     let mut faults = Faults { locals: None, leaks: None };
-    for procedure in &program.procedures {
-        let facts = facts_of(program, procedure);
+    for (number, procedure) in program.procedures.iter().enumerate() {
+        let facts = facts_of(program, number, marks);
         if faults.locals.is_none() {
             faults.locals =
                 lowest(program, procedure, |place, instr| local_fault(program, procedure, &facts, place, instr));
@@ -57,13 +65,14 @@ pub fn find_faults(program: &Program) -> Faults {
     faults
 }
 
-fn facts_of(program: &Program, procedure: &Procedure) -> Facts {
-    match joint(program, procedure, JOINT_STATES) {
+/// What walks of the procedure find where these marks hold.
+pub fn facts_of(program: &Program, number: usize, marks: &Marks) -> Facts {
+    match joint(program, number, marks, JOINT_STATES) {
         Some(facts) => {
-            debug_assert_eq!(facts, places(program, procedure));
+            debug_assert_eq!(facts, places(program, number, marks));
             facts
         }
-        None => places(program, procedure),
+        None => places(program, number, marks),
     }
 }
 
@@ -92,8 +101,8 @@ fn local_fault(program: &Program, procedure: &Procedure, facts: &Facts, place: u
 
 fn leak_fault(program: &Program, procedure: &Procedure, facts: &Facts, place: usize, instr: Instr) -> Option<u32> {
     let number = match instr {
-        Instr::Call(_) => 13,
-        Instr::Ret => 14,
+        Instr::Call(callee) if !is_helper(program, procedure, callee) => 13,
+        Instr::Ret if procedure.public => 14,
         _ => return None,
     };
     let taken = low_bits(program.arity(procedure, instr).0);
@@ -108,12 +117,48 @@ fn low_bits(count: usize) -> u32 {
     (1 << count) - 1
 }
 
-/// Whether the instruction makes a marked reference: BorrowFld of a guarded field through a writable one.
-fn marks(program: &Program, inside: &Procedure, place: usize) -> bool {
-    let at = inside.code.start + place;
-    match program.code[at] {
-        Instr::BorrowFld { of, field } => program.is_guarded(of, field) && !program.view_on_top[at],
-        _ => false,
+/// A procedure whose walks are followed, and the marks that hold.
+#[derive(Clone, Copy)]
+struct Inside<'p> {
+    program: &'p Program,
+    procedure: &'p Procedure,
+    number: usize,
+    marks: &'p Marks,
+}
+
+impl<'p> Inside<'p> {
+    fn new(program: &'p Program, number: usize, marks: &'p Marks) -> Inside<'p> {
+        Inside { program, procedure: &program.procedures[number], number, marks }
+    }
+
+    fn code(&self) -> &'p [Instr] {
+        self.program.code(self.procedure)
+    }
+
+    fn locals(&self) -> usize {
+        self.program.locals(self.procedure).len()
+    }
+
+    fn arity(&self, instr: Instr) -> (usize, usize) {
+        self.program.arity(self.procedure, instr)
+    }
+
+    /// Parameters that start marked.
+    fn marked_params(&self) -> u16 {
+        self.marks.params[self.number]
+    }
+
+    /// The marked references that the instruction makes whatever it takes, among the operands after it: BorrowFld of a
+    /// guarded field through a writable one, and marked results of a call.
+    fn made_marks(&self, place: usize) -> u32 {
+        let at = self.procedure.code.start + place;
+        match self.program.code[at] {
+            Instr::BorrowFld { of, field } => {
+                u32::from(self.program.is_guarded(of, field) && !self.program.view_on_top[at])
+            }
+            Instr::Call(callee) => self.marks.given_by_call(self.program, callee),
+            _ => 0,
+        }
     }
 }
 
@@ -135,12 +180,12 @@ struct Walk {
 }
 
 impl Walk {
-    fn step(mut self, program: &Program, inside: &Procedure, place: usize) -> Walk {
-        let instr = program.code(inside)[place];
-        let (takes, gives) = program.arity(inside, instr);
-        let given_mark = match instr {
-            Instr::MvLoc(local) | Instr::CpLoc(local) => self.marked & bit(local) != 0,
-            _ => marks(program, inside, place),
+    fn step(mut self, inside: Inside, place: usize) -> Walk {
+        let instr = inside.code()[place];
+        let (takes, gives) = inside.arity(instr);
+        let given = match instr {
+            Instr::MvLoc(local) | Instr::CpLoc(local) => u32::from(self.marked & bit(local) != 0),
+            _ => inside.made_marks(place),
         };
         match instr {
             Instr::MvLoc(local) => {
@@ -154,7 +199,7 @@ impl Walk {
             }
             _ => {}
         }
-        self.operands = self.operands >> takes << gives | u32::from(given_mark);
+        self.operands = self.operands >> takes << gives | given;
         self
     }
 }
@@ -179,17 +224,18 @@ impl Met {
 }
 
 /// Follows every walk state by state; nothing if some block start is met in more than `most` states.
-pub fn joint(program: &Program, procedure: &Procedure, most: usize) -> Option<Facts> {
-    let code = program.code(procedure);
+pub fn joint(program: &Program, number: usize, marks: &Marks, most: usize) -> Option<Facts> {
+    let inside = Inside::new(program, number, marks);
+    let code = inside.code();
     let starts = block_starts(code);
     let mut facts = Facts::new(code.len());
     let mut met = Met { states: vec![Vec::new(); code.len()], waiting: Vec::new(), most };
-    let params = low_bits(procedure.params) as u16;
-    met.arrive(0, Walk { full: params, marked: 0, operands: 0 });
+    let params = low_bits(inside.procedure.params) as u16;
+    met.arrive(0, Walk { full: params, marked: inside.marked_params(), operands: 0 });
     while let Some((mut place, mut walk)) = met.waiting.pop() {
         loop {
-            note(&mut facts, place, walk, program.locals(procedure).len());
-            walk = walk.step(program, procedure, place);
+            note(&mut facts, place, walk, inside.locals());
+            walk = walk.step(inside, place);
             if starts[place + 1] {
                 break;
             }
@@ -223,18 +269,21 @@ enum Token {
 }
 
 /// Follows single places through the graph of rows.
-pub fn places(program: &Program, procedure: &Procedure) -> Facts {
-    let code = program.code(procedure);
+pub fn places(program: &Program, number: usize, marks: &Marks) -> Facts {
+    let inside = Inside::new(program, number, marks);
+    let code = inside.code();
     let mut search = Search { facts: Facts::new(code.len()), waiting: Vec::new() };
     search.arrive(0, Token::Walk);
-    for local in 0..program.locals(procedure).len() {
-        let full = local < procedure.params;
+    for local in 0..inside.locals() {
+        let full = local < inside.procedure.params;
         search.arrive(0, if full { Token::Full(local as u8) } else { Token::Empty(local as u8) });
+        if inside.marked_params() >> local & 1 == 1 {
+            search.arrive(0, Token::Marked(local as u8));
+        }
     }
     while let Some((place, token)) = search.waiting.pop() {
-        let instr = code[place];
-        for after in moves(program, procedure, token, place).into_iter().flatten() {
-            for next in ways_on(place, instr).into_iter().flatten() {
+        for after in moves(inside, token, place) {
+            for next in ways_on(place, code[place]).into_iter().flatten() {
                 search.arrive(next, after);
             }
         }
@@ -273,21 +322,25 @@ fn set(locals: &mut u16, local: u8) -> bool {
     before != *locals
 }
 
-/// What the instruction makes of a token: nothing, one or two tokens at the next rows.
-fn moves(program: &Program, inside: &Procedure, token: Token, place: usize) -> [Option<Token>; 2] {
-    let instr = program.code(inside)[place];
+/// What the instruction makes of a token: the tokens at the next rows.
+fn moves(inside: Inside, token: Token, place: usize) -> Vec<Token> {
+    let instr = inside.code()[place];
     match (token, instr) {
-        (Token::Walk, _) if marks(program, inside, place) => [Some(token), Some(Token::MarkedOperand(0))],
-        (Token::Empty(x), Instr::StLoc(y)) if x == y => [Some(Token::Full(x)), None],
-        (Token::Full(x), Instr::MvLoc(y)) if x == y => [Some(Token::Empty(x)), None],
-        (Token::Marked(x), Instr::StLoc(y)) if x == y => [None, None],
-        (Token::Marked(x), Instr::MvLoc(y)) if x == y => [Some(Token::MarkedOperand(0)), None],
-        (Token::Marked(x), Instr::CpLoc(y)) if x == y => [Some(token), Some(Token::MarkedOperand(0))],
-        (Token::MarkedOperand(0), Instr::StLoc(y)) => [Some(Token::Marked(y)), None],
-        (Token::MarkedOperand(depth), _) => {
-            let (takes, gives) = program.arity(inside, instr);
-            [depth.checked_sub(takes).map(|below| Token::MarkedOperand(below + gives)), None]
+        (Token::Walk, _) => {
+            let made = inside.made_marks(place);
+            let marked = (0..u32::BITS as usize).filter(|depth| made >> depth & 1 == 1).map(Token::MarkedOperand);
+            [Token::Walk].into_iter().chain(marked).collect()
         }
-        _ => [Some(token), None],
+        (Token::Empty(x), Instr::StLoc(y)) if x == y => vec![Token::Full(x)],
+        (Token::Full(x), Instr::MvLoc(y)) if x == y => vec![Token::Empty(x)],
+        (Token::Marked(x), Instr::StLoc(y)) if x == y => vec![],
+        (Token::Marked(x), Instr::MvLoc(y)) if x == y => vec![Token::MarkedOperand(0)],
+        (Token::Marked(x), Instr::CpLoc(y)) if x == y => vec![token, Token::MarkedOperand(0)],
+        (Token::MarkedOperand(0), Instr::StLoc(y)) => vec![Token::Marked(y)],
+        (Token::MarkedOperand(depth), _) => {
+            let (takes, gives) = inside.arity(instr);
+            depth.checked_sub(takes).map(|below| Token::MarkedOperand(below + gives)).into_iter().collect()
+        }
+        _ => vec![token],
     }
 }

@@ -200,6 +200,9 @@ fn s_with_its_parameter_moved_twice() {
 fn a_marked_reference_given_to_an_own_procedure() {
     let mut rows: Vec<Row> = T[..12].iter().map(|bytes| Row::from_bytes(bytes)).collect();
     rows.extend([mv(0), field(0, 0), call(2), ret(), private(), param(R), ret()]);
+    accepted(&rows);
+    // The same with a public procedure.
+    rows[16] = public();
     refused(&rows, 13, 14);
 }
 

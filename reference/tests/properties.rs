@@ -6,8 +6,10 @@ use reference::gen::plan::{argument_row, call_row, Plan};
 use reference::gen::rng::Rng;
 use reference::gen::value_faults::{self, CAUSES};
 use reference::gen::view_faults::{add_pair, Family, FAMILIES};
-use reference::gen::{faults, limits, runs, structured, tables, wild};
+use reference::gen::{faults, helpers, limits, runs, structured, tables, wild};
+use reference::helper_counts::{self, RunCounts, TableCounts};
 use reference::machine::{Access, Entry, Machine, Outcome, Reference, Value, Watch};
+use reference::marks::{found_under, is_helper, smallest, Marks};
 use reference::orders::{StoreCounts, OTHER_ORDERS};
 use reference::overdrawn::{OverdrawnCounts, WRONG_READINGS};
 use reference::program::{Instr, Procedure, Program, Sort};
@@ -64,9 +66,10 @@ fn limits_are_met_and_passed() {
 /// Both explorations of walks give the same facts wherever the joint one ends.
 fn explorations_agree(program: &Program) -> usize {
     let mut compared = 0;
-    for procedure in &program.procedures {
-        if let Some(facts) = joint(program, procedure, 2_000) {
-            assert_eq!(facts, places(program, procedure));
+    let (marks, _) = smallest(program);
+    for number in 0..program.procedures.len() {
+        if let Some(facts) = joint(program, number, &marks, 2_000) {
+            assert_eq!(facts, places(program, number, &marks));
             compared += 1;
         }
     }
@@ -103,7 +106,178 @@ fn many_joint_states_are_judged_by_places() {
     // Rows: the module, the procedure, 16 locals, 64 instructions; then CpLoc of a local that may be empty.
     assert_eq!(reference::judge(&plan.bytes()), Err((11, 82)));
     let program = reference::type_check(&plan.bytes()).expect("well typed");
-    assert!(joint(&program, &program.procedures[0], 2_000).is_none());
+    assert!(joint(&program, 0, &Marks::none(&program), 2_000).is_none());
+}
+
+// Marks of helpers.
+
+/// What is marked at an instruction. Operands are counted from the topmost.
+#[derive(Clone, Copy, PartialEq, Eq, PartialOrd, Ord)]
+enum Marked {
+    Local(usize),
+    Operand(usize),
+}
+
+/// Follows marks over the whole table at once: into called procedures, and back to all calls of one that returns one.
+struct Chase<'p> {
+    program: &'p Program,
+    /// Reached calls by callee: the caller and the instruction.
+    sites: BTreeMap<u8, Vec<(usize, usize)>>,
+    seen: BTreeSet<(usize, usize, Marked)>,
+    waiting: Vec<(usize, usize, Marked)>,
+    marks: Marks,
+}
+
+fn ways_on(place: usize, instr: Instr) -> Vec<usize> {
+    match instr {
+        Instr::Ret => vec![],
+        Instr::Branch(to) => vec![to.into()],
+        Instr::BranchCond(to) => vec![place + 1, to.into()],
+        _ => vec![place + 1],
+    }
+}
+
+fn reached(code: &[Instr]) -> BTreeSet<usize> {
+    let mut reached = BTreeSet::new();
+    let mut waiting = vec![0];
+    while let Some(place) = waiting.pop() {
+        if reached.insert(place) {
+            waiting.extend(ways_on(place, code[place]));
+        }
+    }
+    reached
+}
+
+impl Chase<'_> {
+    fn marks(program: &Program) -> Marks {
+        let mut chase = Chase {
+            program,
+            sites: BTreeMap::new(),
+            seen: BTreeSet::new(),
+            waiting: Vec::new(),
+            marks: Marks::none(program),
+        };
+        for (number, procedure) in program.procedures.iter().enumerate() {
+            for place in reached(program.code(procedure)) {
+                match program.code(procedure)[place] {
+                    Instr::Call(callee) => chase.sites.entry(callee).or_default().push((number, place)),
+                    Instr::BorrowFld { of, field }
+                        if program.is_guarded(of, field) && !program.view_on_top[procedure.code.start + place] =>
+                    {
+                        chase.go(number, place + 1, Marked::Operand(0));
+                    }
+                    _ => {}
+                }
+            }
+        }
+        while let Some((number, place, marked)) = chase.waiting.pop() {
+            chase.step(number, place, marked);
+        }
+        chase.marks
+    }
+
+    fn go(&mut self, number: usize, place: usize, marked: Marked) {
+        if self.seen.insert((number, place, marked)) {
+            self.waiting.push((number, place, marked));
+        }
+    }
+
+    fn step(&mut self, number: usize, place: usize, marked: Marked) {
+        let program = self.program;
+        let procedure = &program.procedures[number];
+        let instr = program.code(procedure)[place];
+        let (takes, gives) = program.arity(procedure, instr);
+        let after: Vec<Marked> = match (marked, instr) {
+            (Marked::Local(x), Instr::MvLoc(y)) if x == usize::from(y) => vec![Marked::Operand(0)],
+            (Marked::Local(x), Instr::CpLoc(y)) if x == usize::from(y) => vec![marked, Marked::Operand(0)],
+            (Marked::Local(x), Instr::StLoc(y)) if x == usize::from(y) => vec![],
+            (Marked::Local(_), _) => vec![marked],
+            (Marked::Operand(0), Instr::StLoc(y)) => vec![Marked::Local(y.into())],
+            (Marked::Operand(depth), _) if depth >= takes => vec![Marked::Operand(depth - takes + gives)],
+            (Marked::Operand(depth), Instr::Call(callee)) if is_helper(program, procedure, callee) => {
+                let param = takes - 1 - depth;
+                self.marks.params[usize::from(callee)] |= 1 << param;
+                self.go(callee.into(), 0, Marked::Local(param));
+                vec![]
+            }
+            (Marked::Operand(depth), Instr::Ret) if !procedure.public => {
+                self.marks.results[number] |= 1 << (takes - 1 - depth);
+                for (caller, site) in self.sites.get(&(number as u8)).cloned().unwrap_or_default() {
+                    self.go(caller, site + 1, Marked::Operand(depth));
+                }
+                vec![]
+            }
+            _ => vec![],
+        };
+        for next in ways_on(place, instr) {
+            for &one in &after {
+                self.go(number, next, one);
+            }
+        }
+    }
+}
+
+#[test]
+fn rounds_come_to_the_marks_of_one_search() {
+    let (mut marked, mut compared) = (0, 0);
+    for number in 0..4_000 {
+        let Ok(program) = reference::type_check(&tables::table(41, number)) else { continue };
+        let (marks, rounds) = smallest(&program);
+        assert_eq!(marks, Chase::marks(&program), "table {number}");
+        assert_eq!(marks, found_under(&program, &marks));
+        assert_eq!(marks.any(), rounds > 0);
+        for (one, (params, results)) in program.procedures.iter().zip(marks.params.iter().zip(&marks.results)) {
+            let may_have = !one.public && program.is_trusted(one.module);
+            assert!(may_have || (*params, *results) == (0, 0));
+        }
+        compared += 1;
+        marked += usize::from(rounds > 0);
+    }
+    assert!(compared >= 1_800 && marked >= 450, "{marked} of {compared} tables with marks");
+}
+
+#[test]
+fn families_of_helpers_get_their_verdicts() {
+    for (number, family) in helpers::FAMILIES {
+        for item in 0..300 {
+            let verdict = |mended: bool| {
+                let mut plan = Plan::default();
+                helpers::add(&mut plan, &mut Rng::stream(42, number.into(), item), family, mended);
+                reference::judge(&plan.bytes()).err().map(|refusal| refusal.0)
+            };
+            assert_eq!(verdict(false), Some(number), "{family:?}, item {item}");
+            let mended = if family == helpers::Family::Foreign { Some(number) } else { None };
+            assert_eq!(verdict(true), mended, "{family:?}, item {item}");
+        }
+    }
+}
+
+#[test]
+fn made_tables_tell_readings_of_paper_5_apart() {
+    let mut counts = TableCounts::default();
+    for number in 0..4_000 {
+        let table = tables::table(43, number);
+        counts.add(&table, reference::judge(&table).err());
+    }
+    assert!(counts.accepted >= 150 && counts.given >= 100 && counts.returned >= 70, "{counts:?}");
+    assert!(counts.with_params >= 400 && counts.with_results >= 200, "{counts:?}");
+    assert!(counts.rounds[0] >= 250 && counts.rounds[1] >= 150 && counts.rounds[2] >= 10, "{counts:?}");
+    for ((reading, _), count) in helper_counts::WRONG_READINGS.iter().zip(counts.otherwise) {
+        assert!(count >= 50, "{reading}: {counts:?}");
+    }
+}
+
+#[test]
+fn made_runs_stop_in_helpers() {
+    let mut counts = RunCounts::default();
+    for number in 0..6_000 {
+        let case = runs::case(44, number);
+        if let Ok((program, calls)) = reference::admit_run(&case.table, &case.list, case.text_len) {
+            counts.add(&program, &calls);
+        }
+    }
+    assert!(counts.runs >= 500 && counts.held >= 1_000 && counts.restored >= 100, "{counts:?}");
+    assert!(counts.stopped.iter().all(|&times| times >= 5), "{counts:?}");
 }
 
 // Demand 3, watched while running.
@@ -258,6 +432,8 @@ fn accepted_tables_run_safely() {
         let (table, list) = runs::tangled_run(&mut Rng::stream(15, 0, number));
         watch_run(&table, &list, &mut guard, &mut ends);
         let (table, list) = runs::random_run(&mut Rng::stream(16, 0, number));
+        watch_run(&table, &list, &mut guard, &mut ends);
+        let (table, list) = runs::helper_run(&mut Rng::stream(35, 0, number));
         watch_run(&table, &list, &mut guard, &mut ends);
     }
     assert!(guard.looked > 100_000, "{} states looked at", guard.looked);
@@ -576,7 +752,8 @@ fn leaks_are_mended_by_freeze() {
 #[test]
 fn wild_tables_are_well_typed() {
     for number in 0..600 {
-        for flavour in [wild::Flavour::Locals, wild::Flavour::Records, wild::Flavour::Leaks] {
+        let flavours = [wild::Flavour::Locals, wild::Flavour::Records, wild::Flavour::Leaks, wild::Flavour::Helpers];
+        for flavour in flavours {
             let mut rng = Rng::stream(19, 0, number);
             let table = wild::plan(&mut rng, flavour).bytes();
             let refusal = reference::judge(&table).err().map_or(11, |refusal| refusal.0);

@@ -14,10 +14,10 @@ fn procedure(rows: &[Row]) -> Vec<Row> {
     with(&[guest(), public()], rows)
 }
 
-/// A trusted module with type 0 (a guarded and a plain number) and a private procedure 0 that takes a reference to
+/// A trusted module with type 0 (a guarded and a plain number) and a public procedure 0 that takes a reference to
 /// a number; then the rows, beginning at row 7.
 fn bank(rows: &[Row]) -> Vec<Row> {
-    with(&[trusted(), ty(), guarded(), num(), private(), param(R), ret()], rows)
+    with(&[trusted(), ty(), guarded(), num(), public(), param(R), ret()], rows)
 }
 
 // 1

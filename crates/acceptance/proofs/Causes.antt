@@ -1,27 +1,28 @@
 -- The faults of the locals pass and of the leaks pass are, at every instruction, the lowest number that a walk shows a cause for.
 use Prim.Native.Nat.{ℕ, zero, suc, _<_, _≤_}
 use mathlib.Core.Path.{_≡_, refl, sym, ap, _∙_}
-use mathlib.Core.Bool.{Bool, true, false, cond, _&&_, _||_, or-true, false≢true}
+use mathlib.Core.Bool.{Bool, true, false, cond, not, _&&_, _||_, or-true, false≢true}
 use mathlib.Core.List.{List, [], _∷_, _++_}
 use mathlib.Core.Logic.{_⊎_, inl, inr}
 use mathlib.Mathlib.Data.Bool.Basic.{and-eq-true-eq-eq-true-and-eq-true as both}
 use native.Mathlib.Decide.{ℕ-discrete}
 use native.Mathlib.Omega.{arith}
-use borrow.Author.Tests.{eqb-true, eq-eqb}
+use borrow.Author.Tests.{eqb-true, eq-eqb, not-true}
 use lib.Dec.{eqb}
 use lib.ListN.{length, length-append}
 use Rattle.table.specs.Format.{opMvLoc, opCpLoc, opStLoc, opBorrowLoc, opCall, opRet}
 use Rattle.table.specs.Rows.{rowCount}
 use Rattle.table.specs.Index.{indexOf}
-use Rattle.declarations.specs.Program.{number, numberRef, codeOf, localCount, localKind, isRecord}
+use Rattle.declarations.specs.Program.{number, numberRef, procedureIn, codeOf, localCount, localKind, isRecord}
 use Rattle.operands.specs.Flow.{effectIn}
 use Rattle.flow.specs.Places.{operandMarked}
 use Rattle.locals.specs.Locals.{needsFull, leavesEmpty, leavesRecord, leavesSome, localFault}
 use Rattle.steps.specs.Steps.{stepOf, stepAt, marksOf}
+use Rattle.sizes.proofs.Rows.{own, inside-few}
+use Rattle.helpers.specs.Tables.{isPrivate, isHelper, marksIn}
 use Rattle.leaks.specs.Leaks.{guardedMarks, inTrusted, someMarked, leakIn, leakFrom, leakFault}
 use Rattle.judging.specs.Judging.{UpToOperands}
 use Rattle.acceptance.specs.Refusals.{opcode, operand, ArrivesFull, HandsMarked, LocalCause, used-empty, stored-over, left-behind, LeakCause, given-away, returned}
-use Rattle.acceptance.proofs.Rows.{own, inside-few}
 use Rattle.acceptance.proofs.Shown.{needs-local, stores-local, call-takes, ret-takes, named-local, empty-shown, empty-found, full-shown, full-found, marked-shown, marked-found, takes-few}
 
 -- MvLoc, CpLoc and BorrowLoc are the opcodes that need their local full
@@ -41,25 +42,33 @@ three-need op (inr (inl e)) = rw e
 three-need op (inr (inr e)) = rw e
 
 -- a marked writable reference among operands of some kinds
-marked-at : (nodes : List Bool) (i : ℕ) (ks : List ℕ) → someMarked nodes i ks ≡ true → (before after : List ℕ) × (ks ≡ before ++ (numberRef ∷ after)) × (operandMarked nodes i (length after) ≡ true)
-unfolding someMarked
-marked-at nodes i [] e = absurd (false≢true e)
-marked-at nodes i (k ∷ ks) e = go (eqb k numberRef) (operandMarked nodes i (length ks)) refl refl e (marked-at nodes i ks)
-  where
-    go : (a b : Bool) → eqb k numberRef ≡ a → operandMarked nodes i (length ks) ≡ b → ((a && b) || someMarked nodes i ks) ≡ true
-        → (someMarked nodes i ks ≡ true → (before after : List ℕ) × (ks ≡ before ++ (numberRef ∷ after)) × (operandMarked nodes i (length after) ≡ true))
-        → (before after : List ℕ) × (k ∷ ks ≡ before ++ (numberRef ∷ after)) × (operandMarked nodes i (length after) ≡ true)
-    go true true p q e later = ([], ks, ap (λ (x : ℕ). x ∷ ks) (eqb-true k numberRef p), q)
-    go true false p q e later = let r = later e in (k ∷ r .0, r .1, ap (λ (l : List ℕ). k ∷ l) (r .2), r .3)
-    go false b p q e later = let r = later e in (k ∷ r .0, r .1, ap (λ (l : List ℕ). k ∷ l) (r .2), r .3)
+module _ (marked : ℕ → Bool) where
+  marked-at : (ks : List ℕ) → someMarked marked ks ≡ true → (before after : List ℕ) × (ks ≡ before ++ (numberRef ∷ after)) × (marked (length after) ≡ true)
+  unfolding someMarked
+  marked-at [] e = absurd (false≢true e)
+  marked-at (k ∷ ks) e = go (eqb k numberRef) (marked (length ks)) refl refl e (marked-at ks)
+    where
+      go : (a b : Bool) → eqb k numberRef ≡ a → marked (length ks) ≡ b → ((a && b) || someMarked marked ks) ≡ true
+          → (someMarked marked ks ≡ true → (before after : List ℕ) × (ks ≡ before ++ (numberRef ∷ after)) × (marked (length after) ≡ true))
+          → (before after : List ℕ) × (k ∷ ks ≡ before ++ (numberRef ∷ after)) × (marked (length after) ≡ true)
+      go true true p q e later = ([], ks, ap (λ (x : ℕ). x ∷ ks) (eqb-true k numberRef p), q)
+      go true false p q e later = let r = later e in (k ∷ r .0, r .1, ap (λ (l : List ℕ). k ∷ l) (r .2), r .3)
+      go false b p q e later = let r = later e in (k ∷ r .0, r .1, ap (λ (l : List ℕ). k ∷ l) (r .2), r .3)
 
-at-marked : (nodes : List Bool) (i : ℕ) (before after : List ℕ) → operandMarked nodes i (length after) ≡ true → someMarked nodes i (before ++ (numberRef ∷ after)) ≡ true
-unfolding someMarked
-at-marked nodes i [] after e = rw e
-at-marked nodes i (k ∷ before) after e = rw (at-marked nodes i before after e) (or-true (eqb k numberRef && operandMarked nodes i (length (before ++ (numberRef ∷ after)))))
+  at-marked : (before after : List ℕ) → marked (length after) ≡ true → someMarked marked (before ++ (numberRef ∷ after)) ≡ true
+  unfolding someMarked
+  at-marked [] after e = rw e
+  at-marked (k ∷ before) after e = rw (at-marked before after e) (or-true (eqb k numberRef && marked (length (before ++ (numberRef ∷ after)))))
 
 after-below : (ks before after : List ℕ) → ks ≡ before ++ (numberRef ∷ after) → length after < length ks
 after-below ks before after e = rw (e, length-append) (omega arith)
+
+-- the three tests of a leak
+leaks-three : (op wanted : ℕ) (b c : Bool) → (eqb op wanted && not b && c) ≡ true → (op ≡ wanted) × (b ≡ false) × (c ≡ true)
+leaks-three op wanted b c e =
+    let x = both (eqb op wanted && not b) c .0 e in
+    let y = both (eqb op wanted) (not b) .0 (x .0) in
+    (eqb-true op wanted (y .0), not-true b (y .1), x .1)
 
 -- a test that holds of some number below n: `leavesSome` is such
 module _ (test some : ℕ → Bool) (none : some 0 ≡ false) (more : (n : ℕ) → some (suc n) ≡ (some n || test n)) where
@@ -87,8 +96,8 @@ module _ (test some : ℕ → Bool) (none : some 0 ≡ false) (more : (n : ℕ) 
 abbrev localNumber : Bool → Bool → Bool → ℕ
 localNumber x y z = cond x 11 (cond y 12 (cond z 12 0))
 
-abbrev leakNumber : Bool → Bool → Bool → Bool → ℕ
-leakNumber trusted call ret marked = cond trusted (cond (call && marked) 13 (cond (ret && marked) 14 0)) 0
+abbrev leakNumber : Bool → Bool → Bool → ℕ
+leakNumber trusted call ret = cond trusted (cond call 13 (cond ret 14 0)) 0
 
 -- Instruction i of procedure q of a table that the passes before locals accept.
 module _ (t : List ℕ) (a : UpToOperands t) (q i : ℕ) (there : q < indexOf t .procedures) (inside : i < rowCount (codeOf t (own t q))) where
@@ -148,52 +157,56 @@ module _ (t : List ℕ) (a : UpToOperands t) (q i : ℕ) (there : q < indexOf t 
       go false true = (λ z. omega arith, omega arith)
       go false false = (λ z. omega arith, omega arith)
 
-  -- the kinds that the instruction takes, and the marks
+  -- the kinds that the instruction takes, the marks, and whether it calls a helper
   abbrev takes : List ℕ
   takes = effectIn t (indexOf t) (own t q) number i .takes
 
-  abbrev nodes : List Bool
-  nodes = marksOf t (indexOf t) (guardedMarks t) q (own t q)
+  abbrev marked : ℕ → Bool
+  marked = operandMarked (marksOf t (indexOf t) (guardedMarks t) q (own t q)) i
+
+  abbrev helper : Bool
+  helper = isHelper t (own t q) (procedureIn (indexOf t) (operand t q i))
 
   -- some writable reference among those taken that can be marked
-  taken-shown : someMarked nodes i takes ≡ true → HandsMarked t q i takes
+  taken-shown : someMarked marked takes ≡ true → HandsMarked t q i takes
   unfolding stepAt stepOf effectIn
   taken-shown e =
-      let r = marked-at nodes i takes e in
+      let r = marked-at marked takes e in
       let low = after-below takes (r .0) (r .1) (r .2) in
       (r .0, r .1, r .2, marked-shown t a q there few i (length (r .1)) (omega (arith, low, takes-few t a q there few i inside)) (r .3))
 
-  taken-found : HandsMarked t q i takes → someMarked nodes i takes ≡ true
-  taken-found (before, after, e, w) = rw e (at-marked nodes i before after (marked-found t a q there few i (length after) w))
+  taken-found : HandsMarked t q i takes → someMarked marked takes ≡ true
+  taken-found (before, after, e, w) = rw e (at-marked marked before after (marked-found t a q there few i (length after) w))
 
   -- the fault by its tests
-  leak-is : leakFault t (indexOf t) q (own t q) i
-      ≡ leakNumber (inTrusted t (indexOf t) (own t q)) (eqb (opcode t q i) opCall) (eqb (opcode t q i) opRet)
-      (someMarked nodes i takes)
+  leak-is : leakFault t (indexOf t) (marksIn t) q (own t q) i
+      ≡ leakNumber (inTrusted t (indexOf t) (own t q)) (eqb (opcode t q i) opCall && not helper && someMarked marked takes)
+      (eqb (opcode t q i) opRet && not (isPrivate t (own t q)) && someMarked marked takes)
   unfolding leakFault leakFrom leakIn
   leak-is = refl
 
   -- what has a fault of leaks has a cause for it
-  pub leak-shown : (leakFault t (indexOf t) q (own t q) i ≡ 0 → ⊥) → LeakCause t q i (leakFault t (indexOf t) q (own t q) i)
-  leak-shown = rw leak-is (go (inTrusted t (indexOf t) (own t q)) (eqb (opcode t q i) opCall) (eqb (opcode t q i) opRet)
-      (someMarked nodes i takes) refl refl refl refl)
+  pub leak-shown : (leakFault t (indexOf t) (marksIn t) q (own t q) i ≡ 0 → ⊥) → LeakCause t q i (leakFault t (indexOf t) (marksIn t) q (own t q) i)
+  leak-shown = rw leak-is (go (inTrusted t (indexOf t) (own t q)) (eqb (opcode t q i) opCall && not helper && someMarked marked takes)
+      (eqb (opcode t q i) opRet && not (isPrivate t (own t q)) && someMarked marked takes) refl refl refl)
     where
-      go : (u x y z : Bool) → inTrusted t (indexOf t) (own t q) ≡ u → eqb (opcode t q i) opCall ≡ x → eqb (opcode t q i) opRet ≡ y
-          → someMarked nodes i takes ≡ z
-          → (leakNumber u x y z ≡ 0 → ⊥) → LeakCause t q i (leakNumber u x y z)
-      go false x y z e f g h n = absurd (n refl)
-      go true true y true e f g h n = let c = eqb-true _ _ f in given-away e c (rw (call-takes t q i c) at (taken-shown h))
-      go true false true true e f g h n = let c = eqb-true _ _ g in returned e c (rw (ret-takes t q i c) at (taken-shown h))
-      go true true true false e f g h n = absurd (n refl)
-      go true true false false e f g h n = absurd (n refl)
-      go true false true false e f g h n = absurd (n refl)
-      go true false false z e f g h n = absurd (n refl)
+      go : (u x y : Bool) → inTrusted t (indexOf t) (own t q) ≡ u → (eqb (opcode t q i) opCall && not helper && someMarked marked takes) ≡ x
+          → (eqb (opcode t q i) opRet && not (isPrivate t (own t q)) && someMarked marked takes) ≡ y
+          → (leakNumber u x y ≡ 0 → ⊥) → LeakCause t q i (leakNumber u x y)
+      go false x y e f g n = absurd (n refl)
+      go true true y e f g n =
+          let b = leaks-three (opcode t q i) opCall helper _ f in
+          given-away e (b .0) (b .1) (rw (call-takes t q i (b .0)) at (taken-shown (b .2)))
+      go true false true e f g n =
+          let b = leaks-three (opcode t q i) opRet (isPrivate t (own t q)) _ g in
+          returned e (b .0) (b .1) (rw (ret-takes t q i (b .0)) at (taken-shown (b .2)))
+      go true false false e f g n = absurd (n refl)
 
   -- what has a cause has a fault, and none is higher
-  pub leak-found : (number : ℕ) → LeakCause t q i number → (leakFault t (indexOf t) q (own t q) i ≡ 0 → ⊥) × (leakFault t (indexOf t) q (own t q) i ≤ number)
-  leak-found number (given-away e c w) = rw (leak-is, e, eq-eqb _ opCall c, taken-found (rw (call-takes t q i c) w)) (λ z. omega arith, omega arith)
-  leak-found number (returned e c w) = rw (leak-is, e, eq-eqb _ opRet c, taken-found (rw (ret-takes t q i c) w)) (go (eqb (opcode t q i) opCall))
+  pub leak-found : (number : ℕ) → LeakCause t q i number → (leakFault t (indexOf t) (marksIn t) q (own t q) i ≡ 0 → ⊥) × (leakFault t (indexOf t) (marksIn t) q (own t q) i ≤ number)
+  leak-found number (given-away e c h w) = rw (leak-is, e, eq-eqb _ opCall c, h, taken-found (rw (call-takes t q i c) w)) (λ z. omega arith, omega arith)
+  leak-found number (returned e c h w) = rw (leak-is, e, eq-eqb _ opRet c, h, taken-found (rw (ret-takes t q i c) w)) (go (eqb (opcode t q i) opCall && not helper && true))
     where
-      go : (x : Bool) → (leakNumber true x true true ≡ 0 → ⊥) × (leakNumber true x true true ≤ 14)
+      go : (x : Bool) → (leakNumber true x true ≡ 0 → ⊥) × (leakNumber true x true ≤ 14)
       go true = (λ z. omega arith, omega arith)
       go false = (λ z. omega arith, omega arith)

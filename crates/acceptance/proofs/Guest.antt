@@ -14,7 +14,7 @@ use Rattle.laws.proofs.Lists.{count-zero, count-yes, count-no, entries-at, entr
 use Rattle.table.specs.declared.Row.{Row}
 use Rattle.table.specs.declared.Verdict.the-variants.{Accepted}
 use Rattle.table.specs.declared.index.TypeEntry.{TypeEntry}
-use Rattle.table.specs.Format.{moduleKind, typeKind, fieldKind, opBorrowFld}
+use Rattle.table.specs.Format.{moduleKind, typeKind, fieldKind, opBorrowFld, opCall}
 use Rattle.table.specs.Rows.{rowCount, rowAt, blank, kindAt, isKind}
 use Rattle.table.specs.Index.{noType, indexOf, indexedRows, ownerAt, typeAt}
 use Rattle.table.proofs.Laws.{row-outside, not-kind, type-within, type-fields}
@@ -27,10 +27,11 @@ use Rattle.names.specs.Names.{namesOf, names}
 use Rattle.operands.specs.Operands.{namedType}
 use Rattle.operands.specs.Flow.{Flow}
 use Rattle.steps.specs.Steps.{stepOf, stepAt}
-use Rattle.acceptance.specs.Checked.{stepIn}
-use Rattle.leaks.specs.Leaks.{borrowsGuarded, inTrusted}
-use Rattle.judging.proofs.Sizes.{rows-fine, nth-hit}
-use Rattle.acceptance.proofs.Rows.{count-stretch, own, code-named}
+use Rattle.sizes.proofs.Sizes.{rows-fine, nth-hit}
+use Rattle.sizes.proofs.Rows.{count-stretch, own, code-named}
+use Rattle.helpers.specs.Marks.{resultOf}
+use Rattle.helpers.specs.Tables.{borrowsGuarded, marksUnder}
+use Rattle.leaks.specs.Leaks.{inTrusted}
 
 -- modules are numbered through the table
 no-owner : (k : ℕ) → member 1 (getD owned k []) ≡ false
@@ -222,7 +223,11 @@ module _ (t : List ℕ) (q : ℕ) (there : q < indexOf t .procedures) (few : q <
           absurd (omega arith)
       go false e d = refl
 
-  -- no instruction makes a mark
-  pub no-fresh : (i r : ℕ) → getD (stepIn t q i .fresh) r false ≡ false
-  unfolding stepAt stepOf
-  no-fresh i r = all-false _ _ (λ r. borrows-none i) r
+  -- so with no marks on what Calls push no instruction makes a mark
+  pub no-fresh : (i r : ℕ) → getD (stepAt t (indexOf t) (marksUnder t []) (own t q) i .fresh) r false ≡ false
+  unfolding stepAt stepOf resultOf
+  no-fresh i r = all-false _ _ (λ r. rw (borrows-none i) (either (eqb (instructionIn t (indexOf t) q i .a) opCall))) r
+    where
+      either : (b : Bool) → cond b false false ≡ false
+      either true = refl
+      either false = refl

@@ -22,10 +22,10 @@ use Rattle.names.specs.Names.{nothing, localNumber, typeNumber, names, namesOf}
 use Rattle.names.specs.Exist.{Exists}
 use Rattle.names.proofs.Exist.{names-good}
 use Rattle.flow.specs.Steps.{below, nextOf, nexts}
+use Rattle.sizes.proofs.Sizes.{rows-fine}
+use Rattle.sizes.proofs.Rows.{own, rowOf, row-below, entry-is, row-kind, row-count, parts, code-count, code-row, code-named}
 use Rattle.judging.specs.Judging.{AcceptedTable}
-use Rattle.judging.proofs.Sizes.{rows-fine}
 use Rattle.judging.proofs.Accepts.{up-to-operands}
-use Rattle.acceptance.proofs.Rows.{own, rowOf, row-below, entry-is, row-kind, row-count, parts, code-count, code-row, code-named}
 use Rattle.acceptance.proofs.Follow.{nextBelow, kinds-follow}
 use Rattle.acceptance.proofs.Shown.{flow-at}
 use Rattle.acceptance.proofs.Walks.{checked}

@@ -1,12 +1,16 @@
 pub mod Regular
 pub mod Follow
 pub mod Depth
-pub mod Rows
 pub mod Guest
 pub mod Shown
+pub mod Helpers
+pub mod Given
+pub mod Choices
+pub mod Guests
 pub mod Lowest
 pub mod Causes
 pub mod Refusals
+pub mod NoHelpers
 pub mod Walks
 pub mod Stretches
 pub mod Counts

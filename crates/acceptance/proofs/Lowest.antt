@@ -12,8 +12,8 @@ use Rattle.table.specs.Rows.{rowCount}
 use Rattle.table.specs.Index.{indexOf}
 use Rattle.declarations.specs.Program.{codeOf, codePass}
 use Rattle.declarations.proofs.Passes.{pass-fine, pass-clean, First, pass-first}
+use Rattle.sizes.proofs.Rows.{own, entries-long, inside-few, code-rises}
 use Rattle.acceptance.specs.Refusals.{Earns, Lowest}
-use Rattle.acceptance.proofs.Rows.{own, entries-long, inside-few, code-rises}
 
 -- there is one lowest row with one lowest number, so that `Lowest` leaves no choice
 pub lowest-one : (E : ℕ → ℕ → Type 0) {number row number′ row′ : ℕ} → Lowest E number row → Lowest E number′ row′ → (number ≡ number′) × (row ≡ row′)

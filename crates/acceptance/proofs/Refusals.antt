@@ -16,6 +16,7 @@ use Rattle.rows.specs.Rows.{lengthOf, rowsOf}
 use Rattle.names.specs.Names.{namesOf}
 use Rattle.operands.specs.Operands.{operandsOf}
 use Rattle.locals.specs.Locals.{localFault, localsOf}
+use Rattle.helpers.specs.Tables.{marksIn}
 use Rattle.leaks.specs.Leaks.{leakFault, leaksOf}
 use Rattle.judging.specs.Judging.{judgeOf, passes, UpToOperands}
 use Rattle.judging.proofs.Laws.{refused-here, accepted-here}
@@ -32,7 +33,7 @@ module _ (t : List ℕ) (a : UpToOperands t) where
   local-tells : Tells LocalCause (λ (q : ℕ). localFault t) t
   local-tells = record { shown = λ q i there inside. local-shown t a q i there inside; found = λ q i number there inside. local-found t a q i there inside number }
 
-  leak-tells : Tells LeakCause (leakFault t (indexOf t)) t
+  leak-tells : Tells LeakCause (leakFault t (indexOf t) (marksIn t)) t
   leak-tells = record { shown = λ q i there inside. leak-shown t a q i there inside; found = λ q i number there inside. leak-found t a q i there inside number }
 
   -- 11 and 12: what the locals pass refuses, and what it accepts
@@ -47,11 +48,11 @@ module _ (t : List ℕ) (a : UpToOperands t) where
   -- 13 and 14: the same of the leaks pass
   pub leaks-refused : (number row : ℕ) → (leaksOf t ≡ Refused number row) ↔ Lowest (Earns LeakCause t) number row
   unfolding leaksOf
-  leaks-refused number row = (pass-lowest LeakCause (leakFault t (indexOf t)) t leak-tells, lowest-pass LeakCause (leakFault t (indexOf t)) t leak-tells)
+  leaks-refused number row = (pass-lowest LeakCause (leakFault t (indexOf t) (marksIn t)) t leak-tells, lowest-pass LeakCause (leakFault t (indexOf t) (marksIn t)) t leak-tells)
 
   pub leaks-accepted : (leaksOf t ≡ Accepted (rowCount t)) ↔ ((number row : ℕ) → Earns LeakCause t number row → ⊥)
   unfolding leaksOf
-  leaks-accepted = (pass-none LeakCause (leakFault t (indexOf t)) t leak-tells, none-pass LeakCause (leakFault t (indexOf t)) t leak-tells)
+  leaks-accepted = (pass-none LeakCause (leakFault t (indexOf t) (marksIn t)) t leak-tells, none-pass LeakCause (leakFault t (indexOf t) (marksIn t)) t leak-tells)
 
 -- 4 says that a byte of the row is not used and not zero, and nothing else
 dirty-cause : (t : List ℕ) (row number : ℕ) → RowCause t row number → number ≡ dirtyByte → DirtyByte t row

@@ -17,7 +17,8 @@ use Rattle.effects.specs.Effects.{Effect, effects, effectOf, noEffect}
 use Rattle.operands.specs.Flow.{effectIn}
 use Rattle.flow.specs.Paths.{Regular}
 use Rattle.steps.specs.Steps.{Marking, stepOf, stepAt}
-use Rattle.leaks.specs.Leaks.{borrowsGuarded, guardedMarks}
+use Rattle.helpers.specs.Tables.{borrowsGuarded, marksUnder}
+use Rattle.leaks.specs.Leaks.{guardedMarks}
 
 -- a marking under which steps are regular: MvLoc and CpLoc make no mark of themselves, and what carries marks pushes one operand, which is not marked of itself
 pub record Plain (m : Marking) : Type 0 where
@@ -25,10 +26,13 @@ pub record Plain (m : Marking) : Type 0 where
   pub copied : (named : TypeEntry) (row : Row) → row .a ≡ opCpLoc → m .makes named row 0 ≡ false
   pub carried : (t : List ℕ) (own : ProcedureEntry) (named : TypeEntry) (callee : ProcedureEntry) (row : Row) → m .carries row ≡ true → stepOf t m own named callee row .fresh ≡ false ∷ []
 
--- so are those of guarded references
-pub guarded-plain : (t : List ℕ) → Plain (guardedMarks t)
+-- so are those of guarded references, under any marks
+pub plain-under : (t : List ℕ) (m : List Bool) → Plain (marksUnder t m)
 unfolding borrowsGuarded
-guarded-plain t = record { moved = λ named row e. rw e; copied = λ named row e. rw e; carried = λ t own named callee row e. absurd (false≢true e) }
+plain-under t m = record { moved = λ named row e. rw e; copied = λ named row e. rw e; carried = λ t own named callee row e. absurd (false≢true e) }
+
+pub guarded-plain : (t : List ℕ) → Plain (guardedMarks t)
+guarded-plain t = plain-under t _
 
 -- the step of a row: what it takes, and what is marked of what it pushes
 module _ (t : List ℕ) (m : Marking) (plain : Plain m) (own : ProcedureEntry) (named : TypeEntry) (callee : ProcedureEntry) (row : Row) where

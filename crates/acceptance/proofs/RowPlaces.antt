@@ -19,8 +19,8 @@ use Rattle.table.specs.Rows.{rowAt, kindAt, isKind}
 use Rattle.rows.specs.declared.Above.{Above}
 use Rattle.rows.specs.Rows.{mayFollow, owned, limits, misplaced, tooMany, aboveAt, belowRow, countBelow, countOf}
 use Rattle.rows.proofs.Laws.{agree}
+use Rattle.sizes.proofs.Counts.{number-next, number-count, no-owner}
 use Rattle.acceptance.specs.RowRefusals.{follows, kindAbove, Since, Full, modules, types, fields, procedures, locals, results, instructions}
-use Rattle.acceptance.proofs.Counts.{number-next, number-count, no-owner}
 
 -- what holds of each of the seven kinds, and of what is none
 pub by-kind : (P : ℕ → Type 0) → Below P 8 → ((k : ℕ) → 8 ≤ k → P k) → (k : ℕ) → P k

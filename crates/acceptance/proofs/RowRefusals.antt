@@ -11,7 +11,7 @@ use Rattle.table.specs.declared.Verdict.the-variants.{Accepted, Refused}
 use Rattle.table.specs.Rows.{rowCount}
 use Rattle.declarations.proofs.Passes.{refused-accepted, refused-number, refused-row}
 use Rattle.rows.specs.Rows.{rowsOf, faultAt}
-use Rattle.judging.proofs.Sizes.{rows-fine}
+use Rattle.sizes.proofs.Sizes.{rows-fine}
 use Rattle.acceptance.specs.Refusals.{Lowest}
 use Rattle.acceptance.specs.RowRefusals.{EarnsRow}
 use Rattle.acceptance.proofs.Lowest.{lowest-refused}

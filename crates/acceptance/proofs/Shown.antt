@@ -1,7 +1,7 @@
 -- What the analyses find of a procedure is what walks show, both ways, in a table that the passes before locals accept.
-use Prim.Native.Nat.{ℕ, zero, suc, _+_, _-_, _<_, _≤_}
+use Prim.Native.Nat.{ℕ, zero, suc, _<_, _≤_}
 use mathlib.Core.Path.{_≡_, refl, sym, ap, _∙_}
-use mathlib.Core.Bool.{Bool, true, false, not, _||_, false≢true}
+use mathlib.Core.Bool.{Bool, true, false, _||_, false≢true}
 use mathlib.Core.List.{List}
 use mathlib.Mathlib.Data.Bool.Basic.{and-eq-true-eq-eq-true-and-eq-true as both}
 use native.Mathlib.Numerals.{add-one}
@@ -10,12 +10,10 @@ use native.Mathlib.Omega.{arith}
 use borrow.Author.Tests.{eqb-true, lt-ltb, ltb-true}
 use lib.Dec.{eqb, ltb}
 use lib.ListN.{length, getD, List·getD-eq-default}
-use Rattle.laws.proofs.Lists.{find-within}
-use Rattle.table.specs.declared.index.ProcedureEntry.{ProcedureEntry}
 use Rattle.table.specs.Format.{opMvLoc, opCpLoc, opStLoc, opBorrowLoc, opCall, opRet}
 use Rattle.table.specs.Rows.{rowCount}
 use Rattle.table.specs.Index.{indexOf}
-use Rattle.declarations.specs.Program.{number, procedureIn, codeOf, localCount, isParameter, parametersEnd, parameterKinds, resultKinds, parameterCount}
+use Rattle.declarations.specs.Program.{number, procedureIn, codeOf, localCount, parameterKinds, resultKinds, parameterCount}
 use Rattle.names.specs.Names.{nothing, localNumber, names}
 use Rattle.effects.specs.Kinds.{good}
 use Rattle.effects.specs.Effects.{effects, effectOf}
@@ -31,15 +29,16 @@ use Rattle.flow.proofs.Marks.{operand-mark-shown, operand-mark-found}
 use Rattle.locals.specs.Locals.{needsFull, nodesOf, leavesEmpty, leavesFull}
 use Rattle.steps.specs.Steps.{stepOf, stepAt, marksOf}
 use Rattle.steps.proofs.Laws.{marks-are}
+use Rattle.sizes.proofs.Sizes.{sized}
+use Rattle.sizes.proofs.Rows.{own, entries-long, code-some, local-there}
+use Rattle.sizes.proofs.Inside.{parameters-fit}
 use Rattle.leaks.specs.Leaks.{guardedMarks}
-use Rattle.judging.proofs.Sizes.{sized}
 use Rattle.judging.specs.Judging.{UpToOperands}
 use Rattle.acceptance.specs.Checked.{stepIn, startsIn, WalkOf}
 use Rattle.acceptance.specs.Refusals.{opcode, operand, ArrivesEmpty, ArrivesFull, ArrivesMarked}
 use Rattle.acceptance.proofs.Regular.{guarded-plain, regular, step-takes}
 use Rattle.acceptance.proofs.Follow.{nextBelow}
 use Rattle.acceptance.proofs.Depth.{Deep, deep, shallow, length-onto, good-same}
-use Rattle.acceptance.proofs.Rows.{own, entries-long, code-some, local-there}
 
 -- opcodes that need their local full name a local
 pub needs-local : (op : ℕ) → needsFull op ≡ true → getD names op nothing ≡ localNumber
@@ -55,11 +54,6 @@ needs-local op e = go (eqb op opMvLoc) (eqb op opCpLoc) refl refl e
 pub stores-local : (op : ℕ) → op ≡ opStLoc → getD names op nothing ≡ localNumber
 unfolding names
 stores-local op e = rw e
-
--- there are no more parameters than locals
-params-fit : (t : List ℕ) (p : ProcedureEntry) → parameterCount t p ≤ localCount p
-unfolding parameterCount localCount parametersEnd
-params-fit t p = omega (arith, find-within (λ (i : ℕ). not (isParameter t i)) (p .row + 1) (p .results - (p .row + 1)))
 
 module _ (t : List ℕ) (q : ℕ) where
   -- the nodes of a local are the same with whole steps
@@ -149,7 +143,7 @@ module _ (t : List ℕ) (a : UpToOperands t) (q : ℕ) (there : q < indexOf t .p
     pub marked-shown : j < 16 → operandMarked (marksOf t (indexOf t) (guardedMarks t) q (own t q)) i j ≡ true → ArrivesMarked t q i j
     marked-shown h e =
         let r = operand-mark-shown (nexts (codeOf t (own t q))) (stepIn t q) (startsIn t q)
-        (parameterCount t (own t q)) (localCount (own t q)) (params-fit t (own t q)) (sized t (rowCount t) (a .byRows) .locals q there)
+        (parameterCount t (own t q)) (localCount (own t q)) (parameters-fit t (own t q)) (sized t (rowCount t) (a .byRows) .locals q there)
         (regular t (indexOf t) (guardedMarks t) (own t q) (guarded-plain t)) few-operands stores (rowCount (codeOf t (own t q))) some (nextBelow (codeOf t (own t q))) i j h (rw (marks-are t (indexOf t) (guardedMarks t) q (own t q)) at e) in
         (r .0, r .2, r .3, r .4, r .5)
 
@@ -158,7 +152,7 @@ module _ (t : List ℕ) (a : UpToOperands t) (q : ℕ) (there : q < indexOf t .p
       where
         go : Dec (j < 16) → operandMarked (markNodes (nexts (codeOf t (own t q))) (stepIn t q) (startsIn t q) (parameterCount t (own t q)) (rowCount (codeOf t (own t q)))) i j ≡ true
         go (yes h) = operand-mark-found (nexts (codeOf t (own t q))) (stepIn t q) (startsIn t q)
-            (parameterCount t (own t q)) (localCount (own t q)) (params-fit t (own t q)) (sized t (rowCount t) (a .byRows) .locals q there)
+            (parameterCount t (own t q)) (localCount (own t q)) (parameters-fit t (own t q)) (sized t (rowCount t) (a .byRows) .locals q there)
             (regular t (indexOf t) (guardedMarks t) (own t q) (guarded-plain t)) few-operands stores (rowCount (codeOf t (own t q))) some (nextBelow (codeOf t (own t q))) w j h z
         go (no h) = absurd (false≢true (sym (List·getD-eq-default ms false {n = j} (omega (arith, arrived w .bounded))) ∙ z))
 

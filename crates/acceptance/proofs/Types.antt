@@ -19,9 +19,9 @@ use Rattle.declarations.specs.Program.{recordOf, isReference, rowKind, typeIn, 
 use Rattle.names.specs.Names.{namesOf}
 use Rattle.names.proofs.Exist.{names-good}
 use Rattle.steps.proofs.Laws.{length-kinds}
+use Rattle.sizes.proofs.Sizes.{rows-fine}
+use Rattle.sizes.proofs.Rows.{count-nth, count-stretch}
 use Rattle.judging.specs.Judging.{AcceptedTable}
-use Rattle.judging.proofs.Sizes.{rows-fine}
-use Rattle.acceptance.proofs.Rows.{count-nth, count-stretch}
 use Rattle.acceptance.proofs.Guest.{type-row, type-is, type-below, type-kind, field-end}
 use Rattle.acceptance.specs.Judged.{Declared}
 use Rattle.acceptance.proofs.Stretches.{kind-at, kind-there}

@@ -7,18 +7,17 @@ use lib.ListN.{length, getD}
 use Rattle.table.specs.declared.Verdict.the-variants.{Accepted}
 use Rattle.table.specs.Rows.{rowCount}
 use Rattle.table.specs.Index.{indexOf}
-use Rattle.declarations.specs.Program.{codeOf, localCount, parameterCount}
-use Rattle.flow.specs.Steps.{nexts}
-use Rattle.flow.specs.Walks.{Slot, empty, full, markOf}
-use Rattle.flow.proofs.Marks.{no-local-mark, no-operand-mark}
+use Rattle.declarations.specs.Program.{codeOf}
+use Rattle.flow.specs.Walks.{Slot, empty, full}
+use Rattle.sizes.proofs.Rows.{own}
 use Rattle.leaks.specs.Leaks.{inTrusted}
 use Rattle.judging.specs.Judging.{AcceptedTable, judgeOf}
 use Rattle.judging.proofs.Accepts.{accepted, up-to-operands}
-use Rattle.acceptance.specs.Checked.{stepIn, startsIn, WalkOf, Unmarked, Checked}
+use Rattle.acceptance.specs.Checked.{WalkOf, Unmarked, Checked}
 use Rattle.acceptance.specs.Refusals.{HandsMarked, LocalCause, used-empty, stored-over, left-behind, LeakCause, given-away, returned}
-use Rattle.acceptance.proofs.Rows.{own}
-use Rattle.acceptance.proofs.Guest.{no-fresh}
-use Rattle.acceptance.proofs.Shown.{flow-at, arrived}
+use Rattle.acceptance.proofs.Shown.{arrived}
+use Rattle.acceptance.proofs.Helpers.{smallest}
+use Rattle.acceptance.proofs.Guests.{not-true-false, guest-clean}
 use Rattle.acceptance.proofs.Causes.{needs-three}
 use Rattle.acceptance.proofs.Refusals.{locals-accepted, leaks-accepted}
 
@@ -31,11 +30,6 @@ slot-full (full m) h = (m, refl)
 slot-empty : (s : Slot) → ((m : Bool) → s ≡ full m → ⊥) → s ≡ empty
 slot-empty empty h = refl
 slot-empty (full m) h = absurd (h m refl)
-
--- what is not true is false
-not-true-false : (b : Bool) → (b ≡ true → ⊥) → b ≡ false
-not-true-false true h = absurd (h refl)
-not-true-false false h = refl
 
 -- Where a walk of procedure q of an accepted table arrives.
 module _ (t : List ℕ) (a : AcceptedTable t) (q : ℕ) (there : q < indexOf t .procedures) (few : q < 128) {k i : ℕ} {ls : List Slot} {ms : List Bool} (w : WalkOf t q k i ls ms) where
@@ -50,23 +44,13 @@ module _ (t : List ℕ) (a : AcceptedTable t) (q : ℕ) (there : q < indexOf t .
   no-leak : {number : ℕ} → LeakCause t q i number → ⊥
   no-leak c = leaks-accepted t (up-to-operands a) .0 (a .byLeaks) _ _ (q, i, there, inside, refl, c)
 
-  -- in a guest nothing is marked
-  guest-walk : inTrusted t (indexOf t) (own t q) ≡ false → ((l : ℕ) → markOf (getD ls l empty) ≡ false) × ((j : ℕ) → getD ms j false ≡ false)
-  guest-walk g =
-      let fresh = no-fresh t q there few (rowCount t) (a .byRows) (a .byNames) (flow-at t (up-to-operands a) q there few) g in (
-        no-local-mark (nexts (codeOf t (own t q))) (stepIn t q) (startsIn t q)
-            (parameterCount t (own t q)) (localCount (own t q)) fresh (λ l. refl) w,
-        no-operand-mark (nexts (codeOf t (own t q))) (stepIn t q) (startsIn t q)
-            (parameterCount t (own t q)) (localCount (own t q)) fresh (λ l. refl) w,
-      )
-
   -- what a Call takes, and what Ret returns, is not marked
   none-taken : (ks : List ℕ) → (inTrusted t (indexOf t) (own t q) ≡ true → HandsMarked t q i ks → ⊥) → Unmarked ks ms
   none-taken ks none before after e = go (inTrusted t (indexOf t) (own t q)) refl
     where
       go : (b : Bool) → inTrusted t (indexOf t) (own t q) ≡ b → getD ms (length after) false ≡ false
       go true tr = not-true-false _ (λ z. none tr (before, after, e, (k, ls, ms, w, z)))
-      go false g = guest-walk g .1 (length after)
+      go false g = guest-clean t (up-to-operands a) q there w g .1 (length after)
 
 -- what an accepted table gives at the end of every walk
 pub checked : (t : List ℕ) → AcceptedTable t → (q : ℕ) → q < indexOf t .procedures → q < 128 → {k i : ℕ} {ls : List Slot} {ms : List Bool} → WalkOf t q k i ls ms → Checked t q i ls ms
@@ -74,9 +58,11 @@ checked t a q there few {k} {i} {ls} {ms} w = record {
   full-there = λ e. slot-full _ (λ z. no-local t a q there few w (used-empty (needs-three _ e) (k, ls, ms, w, z)));
   none-over = λ e r. slot-empty _ (λ m z. no-local t a q there few w (stored-over e r (k, ls, ms, m, w, z)));
   none-left = λ e l h r. slot-empty _ (λ m z. no-local t a q there few w (left-behind e l h r (k, ls, ms, m, w, z)));
-  none-given = λ e. none-taken t a q there few w _ (λ tr g. no-leak t a q there few w (given-away tr e g));
-  none-returned = λ e. none-taken t a q there few w _ (λ tr g. no-leak t a q there few w (returned tr e g));
-  guest-clean = guest-walk t a q there few w;
+  none-given = λ e h. none-taken t a q there few w _ (λ tr g. no-leak t a q there few w (given-away tr e h g));
+  given-marked = smallest t (up-to-operands a) .closed .given q i there w;
+  none-returned = λ e h. none-taken t a q there few w _ (λ tr g. no-leak t a q there few w (returned tr e h g));
+  returned-marked = smallest t (up-to-operands a) .closed .returned q i there w;
+  guest-clean = guest-clean t (up-to-operands a) q there w;
 }
 
 -- the same, from the verdict

@@ -3,3 +3,4 @@ pub mod Refusals
 pub mod RowRefusals
 pub mod Judged
 pub mod ProcedureRows
+pub mod Helpers

@@ -12,6 +12,7 @@ use Rattle.table.specs.Index.{indexOf}
 use Rattle.table.specs.Refusals.{emptyLocal, lostRecord, markGiven, markReturned}
 use Rattle.declarations.specs.Program.{numberRef, isRecord, procedureIn, codeOf, localCount, localKind, parameterKinds, resultKinds}
 use Rattle.flow.specs.Walks.{Slot, empty, full}
+use Rattle.helpers.specs.Tables.{isPrivate, isHelper}
 use Rattle.leaks.specs.Leaks.{inTrusted}
 use Rattle.acceptance.specs.Checked.{WalkOf}
 
@@ -47,11 +48,12 @@ module _ (t : List ℕ) (q i : ℕ) where
     stored-over : opcode ≡ opStLoc → isRecord (localKind t own operand) ≡ true → ArrivesFull operand → LocalCause lostRecord
     left-behind : opcode ≡ opRet → (l : ℕ) → l < localCount own → isRecord (localKind t own l) ≡ true → ArrivesFull l → LocalCause lostRecord
 
-  -- in a trusted module, 13: a marked reference given to a Call, as one of its parameters; 14: a marked reference returned, as one of the results; a
-  -- read-only one is never marked
+  -- in a trusted module, 13: a marked reference given to a Call of a procedure that is no helper, as one of its parameters; 14: a marked reference returned by a public procedure, as
+  -- one of the results; a read-only one is never marked
   pub data LeakCause : ℕ → Type 0 where
-    given-away : inTrusted t (indexOf t) own ≡ true → opcode ≡ opCall → HandsMarked (parameterKinds t (procedureIn (indexOf t) operand)) → LeakCause markGiven
-    returned : inTrusted t (indexOf t) own ≡ true → opcode ≡ opRet → HandsMarked (resultKinds t own) → LeakCause markReturned
+    given-away : inTrusted t (indexOf t) own ≡ true → opcode ≡ opCall → isHelper t own (procedureIn (indexOf t) operand) ≡ false
+        → HandsMarked (parameterKinds t (procedureIn (indexOf t) operand)) → LeakCause markGiven
+    returned : inTrusted t (indexOf t) own ≡ true → opcode ≡ opRet → isPrivate t own ≡ false → HandsMarked (resultKinds t own) → LeakCause markReturned
 
 -- a row earns a number: it is an instruction of a procedure, with a cause for that number
 abbrev pub Earns : (List ℕ → ℕ → ℕ → ℕ → Type 0) → List ℕ → ℕ → ℕ → Type 0

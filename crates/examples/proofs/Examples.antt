@@ -3,7 +3,7 @@ use mathlib.Core.Path.{_≡_, refl}
 use mathlib.Core.List.{List, _++_, map, map-append}
 use Rattle.judging.specs.Judging.{judgeOf}
 use Rattle.semantics.specs.Run.{runOf}
-use Rattle.examples.specs.Examples.{Example, Answer, judgingRows, judgingValues, judgingWalks, judgingMarks, judgingOverwritten, judgingReadOnly, judgingHanded, runningCalls, runningKeys, runningLimits, examples, line, given, expected, answered, answers}
+use Rattle.examples.specs.Examples.{Example, Answer, judgingRows, judgingValues, judgingWalks, judgingMarks, judgingOverwritten, judgingReadOnly, judgingHanded, judgingHelpers, judgingGiven, judgingRounds, runningCalls, runningKeys, runningLimits, examples, line, given, expected, answered, answers}
 use Rattle.examples.proofs.Rules.{rules}
 
 -- what the rules answer to an example; that they answer some examples as stated
@@ -41,6 +41,18 @@ handed-hold : Hold judgingHanded
 unfolding Hold rules judgingHanded
 handed-hold = refl
 
+helpers-hold : Hold judgingHelpers
+unfolding Hold rules judgingHelpers
+helpers-hold = refl
+
+given-hold : Hold judgingGiven
+unfolding Hold rules judgingGiven
+given-hold = refl
+
+rounds-hold : Hold judgingRounds
+unfolding Hold rules judgingRounds
+rounds-hold = refl
+
 calls-hold : Hold runningCalls
 unfolding Hold rules runningCalls line
 calls-hold = refl
@@ -57,8 +69,8 @@ both : (xs ys : List Example) → Hold xs → Hold ys → Hold (xs ++ ys)
 unfolding Hold
 both xs ys hx hy = rw (map-append told xs ys, map-append given xs ys, hx, hy) refl
 
-parts-hold : Hold (judgingRows ++ judgingValues ++ judgingWalks ++ judgingMarks ++ judgingOverwritten ++ judgingReadOnly ++ judgingHanded ++ runningCalls ++ runningKeys ++ runningLimits)
-parts-hold = both _ _ (both _ _ (both _ _ (both _ _ (both _ _ (both _ _ (both _ _ (both _ _ (both _ _ rows-hold values-hold) walks-hold) marks-hold) overwritten-hold) read-only-hold) handed-hold) calls-hold) keys-hold) limits-hold
+parts-hold : Hold (judgingRows ++ judgingValues ++ judgingWalks ++ judgingMarks ++ judgingOverwritten ++ judgingReadOnly ++ judgingHanded ++ judgingHelpers ++ judgingGiven ++ judgingRounds ++ runningCalls ++ runningKeys ++ runningLimits)
+parts-hold = both _ _ (both _ _ (both _ _ (both _ _ (both _ _ (both _ _ (both _ _ (both _ _ (both _ _ (both _ _ (both _ _ (both _ _ rows-hold values-hold) walks-hold) marks-hold) overwritten-hold) read-only-hold) handed-hold) helpers-hold) given-hold) rounds-hold) calls-hold) keys-hold) limits-hold
 
 pub all-hold : answers judgeOf runOf ≡ expected
 unfolding Hold examples answers expected

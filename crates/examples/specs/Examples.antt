@@ -8,7 +8,7 @@ use Rattle.table.specs.declared.Verdict.{Verdict}
 use Rattle.table.specs.declared.Verdict.the-variants.{Accepted, Refused}
 use Rattle.semantics.specs.Ascii.{ascii}
 use Rattle.semantics.specs.Run.{Ran, minText}
-use Rattle.examples.specs.Tables.{row, table, trusted, guest, type, number, guarded, public, private, parameter, local, code, pop, loadConst, mvLoc, cpLoc, stLoc, exists, moveFrom, unpack, borrowFld, readRef, pack, moveTo, callProcedure, ret, branch, branchCond, subtract, call, argument, rowsS, rowsT, rowsRound, with-row, without-row, times, rowsLent, rowsShown, rowsTakesTwo, rowsMarkedOnFallThrough, rowsMarkedOnJump, rowsOverwrittenOnce, rowsOverwrittenTwice, rowsOps, rowsLoop, rowsClosed, rowsWritten, rowsTill, callsTill, rowsTwo, rowsKeys, rowsBare, rowsTypes, rowsNested, rowsGuest, callsGuest, rowsRefilled, rowsEmptied, rowsReturned, rowsStale, rowsDeep, rowsMany, rowsFull, result, borrowLoc, writeRef, freeze, rowsLabel, callsLabel, rowsSeen, rowsFrozenStale, rowsTakesOne}
+use Rattle.examples.specs.Tables.{row, table, trusted, guest, type, number, guarded, public, private, parameter, local, code, pop, loadConst, mvLoc, cpLoc, stLoc, exists, moveFrom, unpack, borrowFld, readRef, pack, moveTo, callProcedure, ret, branch, branchCond, subtract, call, argument, rowsS, rowsT, rowsRound, with-row, without-row, times, rowsLent, rowsShown, rowsTakesTwo, rowsMarkedOnFallThrough, rowsMarkedOnJump, rowsOverwrittenOnce, rowsOverwrittenTwice, rowsOps, rowsLoop, rowsClosed, rowsWritten, rowsTill, callsTill, rowsTwo, rowsKeys, rowsBare, rowsTypes, rowsNested, rowsGuest, callsGuest, rowsRefilled, rowsEmptied, rowsReturned, rowsStale, rowsDeep, rowsMany, rowsFull, result, borrowLoc, writeRef, freeze, rowsLabel, callsLabel, rowsSeen, rowsFrozenStale, rowsTakesOne, rowsHelped, callsHelped, rowsCrossed, rowsRotated, rowsSwapped, rowsJumpedOver, rowsDropped, rowsGivenOnce, rowsReturnedAt, rowsCalledTwice, rowsThirteen, rowsAdded, callsAdded}
 
 -- an example: the bytes of a table and its verdict; or a table, a call list and the length of a text buffer, with the answer and the text
 pub data Example : Type 0 where
@@ -145,10 +145,12 @@ judgingWalks =
     ∷ gives (table (with-row 2 number rowsT)) (Accepted 16)
     -- S with MvLoc 0 and Pop put in after row 7
     ∷ gives (table (take 8 rowsS ++ (mvLoc 0 ∷ pop ∷ drop 8 rowsS))) (Refused 11 8)
-    -- a marked reference given to an own procedure
-    ∷ gives (table (take 12 rowsT ++ (mvLoc 0 ∷ borrowFld 0 0 ∷ callProcedure 2 ∷ ret ∷ private ∷ parameter 2 0 ∷ ret ∷ []))) (Refused 13 14)
-    -- a mark that travels through three locals round a loop
-    ∷ gives (table rowsRound) (Refused 13 16)
+    -- a marked reference given to an own procedure: private, public
+    ∷ gives (table (take 12 rowsT ++ (mvLoc 0 ∷ borrowFld 0 0 ∷ callProcedure 2 ∷ ret ∷ private ∷ parameter 2 0 ∷ ret ∷ []))) (Accepted 19)
+    ∷ gives (table (take 12 rowsT ++ (mvLoc 0 ∷ borrowFld 0 0 ∷ callProcedure 2 ∷ ret ∷ public ∷ parameter 2 0 ∷ ret ∷ []))) (Refused 13 14)
+    -- a mark that travels through three locals round a loop, to a private procedure, to a public one
+    ∷ gives (table rowsRound) (Accepted 21)
+    ∷ gives (table (with-row 18 public rowsRound)) (Refused 13 16)
     -- a record left in a local on one of two ways
     ∷ gives (table (trusted ∷ type ∷ public ∷ parameter 0 0 ∷ local 1 0 ∷ mvLoc 0 ∷ branchCond 4 ∷ pack 0 ∷ stLoc 1 ∷ ret ∷ [])) (Refused 12 9)
     -- a walk goes on past a faulty row
@@ -161,6 +163,9 @@ judgingMarks =
     -- a mark that comes on one of two ways only
     gives (table rowsMarkedOnFallThrough) (Refused 13 13)
     ∷ gives (table rowsMarkedOnJump) (Refused 13 14)
+    -- a type with two fields, the second guarded: a reference to the first is returned, to the second
+    ∷ gives (table (trusted ∷ type ∷ number ∷ guarded ∷ public ∷ parameter 3 0 ∷ result 2 0 ∷ mvLoc 0 ∷ borrowFld 0 0 ∷ ret ∷ [])) (Accepted 10)
+    ∷ gives (table (trusted ∷ type ∷ number ∷ guarded ∷ public ∷ parameter 3 0 ∷ result 2 0 ∷ mvLoc 0 ∷ borrowFld 0 1 ∷ ret ∷ [])) (Refused 14 9)
     -- the lower of two arguments is marked; the upper
     ∷ gives (table (rowsLent ++ (cpLoc 0 ∷ borrowFld 0 0 ∷ mvLoc 1 ∷ callProcedure 1 ∷ ret ∷ rowsTakesTwo))) (Refused 13 10)
     ∷ gives (table (rowsLent ++ (mvLoc 1 ∷ cpLoc 0 ∷ borrowFld 0 0 ∷ callProcedure 1 ∷ ret ∷ rowsTakesTwo))) (Refused 13 10)
@@ -204,10 +209,55 @@ judgingHanded =
     -- a read-only one to a guarded field above, and below, a writable one to a parameter's number; a writable one to a guarded field below it
     ∷ gives (table (rowsShown ++ (mvLoc 1 ∷ mvLoc 0 ∷ borrowFld 0 0 ∷ callProcedure 1 ∷ ret ∷ private ∷ parameter 2 0 ∷ parameter 4 0 ∷ ret ∷ []))) (Accepted 15)
     ∷ gives (table (rowsShown ++ (mvLoc 0 ∷ borrowFld 0 0 ∷ mvLoc 1 ∷ callProcedure 1 ∷ ret ∷ private ∷ parameter 4 0 ∷ parameter 2 0 ∷ ret ∷ []))) (Accepted 15)
-    ∷ gives (table (rowsLent ++ (cpLoc 0 ∷ borrowFld 0 0 ∷ mvLoc 0 ∷ freeze ∷ borrowFld 0 0 ∷ callProcedure 1 ∷ ret ∷ private ∷ parameter 2 0 ∷ parameter 4 0 ∷ ret ∷ []))) (Refused 13 12)
+    ∷ gives (table (rowsLent ++ (cpLoc 0 ∷ borrowFld 0 0 ∷ mvLoc 0 ∷ freeze ∷ borrowFld 0 0 ∷ callProcedure 1 ∷ ret ∷ public ∷ parameter 2 0 ∷ parameter 4 0 ∷ ret ∷ []))) (Refused 13 12)
     -- a local that holds one to a guarded field on one of two ways
     ∷ gives (table (trusted ∷ type ∷ guarded ∷ public ∷ parameter 5 0 ∷ parameter 4 0 ∷ parameter 0 0
     ∷ mvLoc 2 ∷ branchCond 5 ∷ cpLoc 0 ∷ borrowFld 0 0 ∷ stLoc 1 ∷ mvLoc 1 ∷ callProcedure 1 ∷ ret ∷ private ∷ parameter 4 0 ∷ ret ∷ [])) (Accepted 18)
+    ∷ []
+
+-- leaks: helpers
+unfoldable pub judgingHelpers : List Example
+judgingHelpers =
+    -- T with its procedure private; then a public one returns what it gets from it, and one writes through it
+    gives (table (with-row 10 private rowsT)) (Accepted 16)
+    ∷ gives (table (with-row 10 private rowsT ++ (public ∷ parameter 3 0 ∷ result 2 0 ∷ mvLoc 0 ∷ callProcedure 1 ∷ ret ∷ []))) (Refused 14 21)
+    ∷ gives (table (with-row 10 private rowsT ++ (public ∷ parameter 3 0 ∷ loadConst 1 ∷ mvLoc 0 ∷ callProcedure 1 ∷ writeRef ∷ ret ∷ []))) (Accepted 23)
+    -- of another module a private procedure is none to call, a public one of a guest or of a trusted module no helper
+    ∷ gives (table (trusted ∷ type ∷ guarded ∷ public ∷ parameter 3 0 ∷ mvLoc 0 ∷ borrowFld 0 0 ∷ callProcedure 1 ∷ ret ∷ trusted ∷ private ∷ parameter 2 0 ∷ ret ∷ [])) (Refused 10 7)
+    ∷ gives (table (trusted ∷ type ∷ guarded ∷ public ∷ parameter 3 0 ∷ mvLoc 0 ∷ borrowFld 0 0 ∷ callProcedure 1 ∷ ret ∷ guest ∷ public ∷ parameter 2 0 ∷ ret ∷ [])) (Refused 13 7)
+    ∷ gives (table (trusted ∷ type ∷ guarded ∷ public ∷ parameter 3 0 ∷ mvLoc 0 ∷ borrowFld 0 0 ∷ callProcedure 1 ∷ ret ∷ trusted ∷ public ∷ parameter 2 0 ∷ ret ∷ [])) (Refused 13 7)
+    -- of two results the lower is not marked, the upper is
+    ∷ gives (table (rowsSwapped (pop ∷ ret ∷ []))) (Accepted 21)
+    ∷ gives (table (rowsSwapped (stLoc 1 ∷ pop ∷ mvLoc 1 ∷ ret ∷ []))) (Refused 14 22)
+    -- a Call that no walk arrives at; the same, arrived at; in a private procedure that nothing calls
+    ∷ gives (table (rowsJumpedOver 5)) (Accepted 22)
+    ∷ gives (table (rowsJumpedOver 1)) (Refused 14 13)
+    ∷ gives (table (with-row 14 private (rowsJumpedOver 1))) (Refused 14 13)
+    -- a mark that StLoc drops; one that it does not
+    ∷ gives (table rowsDropped) (Accepted 20)
+    ∷ gives (table (without-row 7 (without-row 7 rowsDropped))) (Refused 14 17)
+    ∷ []
+
+-- leaks: one walk that gives or returns a marked reference is enough
+unfoldable pub judgingGiven : List Example
+judgingGiven =
+    -- given to a helper on one of two ways; by one of two procedures, of which the other returns what it gets
+    gives (table rowsGivenOnce) (Refused 14 20)
+    ∷ gives (table rowsCalledTwice) (Refused 14 20)
+    -- returned by a helper at its second Ret, at its first, at neither
+    ∷ gives (table (rowsReturnedAt 1 0)) (Refused 14 21)
+    ∷ gives (table (rowsReturnedAt 0 1)) (Refused 14 21)
+    ∷ gives (table (rowsReturnedAt 1 1)) (Accepted 22)
+    -- of 13 parameters the last is marked: the first is returned, the last
+    ∷ gives (table (rowsThirteen 0)) (Accepted 40)
+    ∷ gives (table (rowsThirteen 12)) (Refused 14 39)
+    ∷ []
+
+-- leaks: marks that come after several rounds
+unfoldable pub judgingRounds : List Example
+judgingRounds =
+    gives (table rowsCrossed) (Refused 14 25)
+    ∷ gives (table rowsRotated) (Refused 13 18)
     ∷ []
 
 -- call lists: refusals 15 to 17, every opcode, and stops 31 to 35 and 39
@@ -247,6 +297,13 @@ runningCalls =
     (line "call 0 done" ++ line "call 1 stop 39 row 18" ++ line "call 2 done"
     ++ line "call 3 stop 39 row 18" ++ line "call 4 stop 39 row 18" ++ line "call 5 stop 31 row 18" ++ line "call 6 done"
     ++ line "call 7 done" ++ line "call 8 stop 32 row 32" ++ line "store 0 7 18446744073709551615")
+    -- helpers: written and read through what they are given and return, by a guest's call too; 34 in a helper; 31 in a helper after it has written, and the kilos are as they were
+    ∷ prints (table rowsHelped) (table callsHelped)
+    (line "call 0 done" ++ line "call 1 done" ++ line "call 2 done 60" ++ line "call 3 done" ++ line "call 4 done 9"
+    ++ line "call 5 stop 34 row 14" ++ line "call 6 stop 31 row 23" ++ line "call 7 done 9" ++ line "store 0 7 9")
+    -- a helper that calls itself writes in each frame; 31 in the third frame and before the last Ret, and 36: the kilos are as they were
+    ∷ prints (table rowsAdded) (table callsAdded)
+    (line "call 0 done" ++ line "call 1 done" ++ line "call 2 stop 31 row 22" ++ line "call 3 stop 31 row 36" ++ line "call 4 stop 36 row 26" ++ line "store 0 7 506")
     -- the second of two credits is written
     ∷ prints (table rowsTwo) (table (call 0 100 ∷ [])) (line "call 0 done" ++ line "store 0 7 1" ++ line "store 0 8 3")
     -- nested records
@@ -315,7 +372,7 @@ runningLimits =
 
 -- all of them
 unfoldable pub examples : List Example
-examples = judgingRows ++ judgingValues ++ judgingWalks ++ judgingMarks ++ judgingOverwritten ++ judgingReadOnly ++ judgingHanded ++ runningCalls ++ runningKeys ++ runningLimits
+examples = judgingRows ++ judgingValues ++ judgingWalks ++ judgingMarks ++ judgingOverwritten ++ judgingReadOnly ++ judgingHanded ++ judgingHelpers ++ judgingGiven ++ judgingRounds ++ runningCalls ++ runningKeys ++ runningLimits
 
 -- what an example is answered with
 pub data Answer : Type 0 where

@@ -143,7 +143,7 @@ rowsS = trusted ∷ type ∷ guarded ∷ public ∷ parameter 0 0 ∷ loadConst 
 unfoldable pub rowsT : List (List ℕ)
 rowsT = rowsS ++ (public ∷ parameter 3 0 ∷ result 2 0 ∷ mvLoc 0 ∷ borrowFld 0 0 ∷ ret ∷ [])
 
--- a loop in which a reference to the guarded kilos moves on by one local each time round, and the last local is given to a procedure
+-- a loop in which a reference to the guarded kilos moves on by one local each time round, and the last local is given to a helper, at row 18
 unfoldable pub rowsRound : List (List ℕ)
 rowsRound =
     trusted ∷ type ∷ guarded ∷ public ∷ parameter 3 0 ∷ parameter 2 0 ∷ parameter 2 0 ∷ parameter 2 0
@@ -171,12 +171,116 @@ rowsLent = trusted ∷ type ∷ guarded ∷ public ∷ parameter 3 0 ∷ paramet
 unfoldable pub rowsShown : List (List ℕ)
 rowsShown = trusted ∷ type ∷ guarded ∷ public ∷ parameter 5 0 ∷ parameter 2 0 ∷ []
 
--- after these, procedures that take one reference to a number, and two
+-- after these, public procedures that take one reference to a number, and two
 unfoldable pub rowsTakesOne : List (List ℕ)
-rowsTakesOne = private ∷ parameter 2 0 ∷ ret ∷ []
+rowsTakesOne = public ∷ parameter 2 0 ∷ ret ∷ []
 
 unfoldable pub rowsTakesTwo : List (List ℕ)
-rowsTakesTwo = private ∷ parameter 2 0 ∷ parameter 2 0 ∷ ret ∷ []
+rowsTakesTwo = public ∷ parameter 2 0 ∷ parameter 2 0 ∷ ret ∷ []
+
+-- Helpers. A private procedure that returns a reference to the kilos of the credit at an address, one that writes, public ones that use them, and a guest that calls a public one
+unfoldable pub rowsHelped : List (List ℕ)
+rowsHelped =
+    rowsS
+    ++ (private ∷ parameter 0 0 ∷ result 2 0 ∷ mvLoc 0 ∷ borrowGlobal 0 ∷ borrowFld 0 0 ∷ ret
+    ∷ private ∷ parameter 2 0 ∷ parameter 0 0 ∷ mvLoc 1 ∷ mvLoc 0 ∷ writeRef ∷ ret
+    ∷ public ∷ parameter 0 0 ∷ parameter 0 0 ∷ mvLoc 0 ∷ callProcedure 1 ∷ mvLoc 1 ∷ callProcedure 2 ∷ ret
+    ∷ public ∷ parameter 0 0 ∷ result 0 0 ∷ mvLoc 0 ∷ callProcedure 1 ∷ readRef ∷ ret ∷ guest
+    ∷ public ∷ parameter 0 0 ∷ mvLoc 0 ∷ loadConst 9 ∷ callProcedure 3 ∷ ret ∷ [])
+
+unfoldable pub callsHelped : List (List ℕ)
+callsHelped =
+    call 0 100 ∷ argument 7 ∷ call 3 13 ∷ argument 7 ∷ argument 60 ∷ call 4 100 ∷ argument 7 ∷ call 5 100 ∷ argument 7 ∷ call 4 100 ∷ argument 7
+    ∷ call 4 100 ∷ argument 8 ∷ call 3 11 ∷ argument 7 ∷ argument 200 ∷ call 4 100 ∷ argument 7 ∷ []
+
+-- S; a helper adds n, n - 1, .. 1 to the number that it is given a reference to, calling itself with what is left (WriteRef is row 21, the Call row 26); a public procedure gives it the
+-- kilos of an address. It does 5 instructions up to its Call, and its Ret is row 36; the helper does 13 up to its own Call and then a Ret, and 3 with n = 0
+unfoldable pub rowsAdded : List (List ℕ)
+rowsAdded =
+    rowsS
+    ++ (private ∷ parameter 2 0 ∷ parameter 0 0
+    ∷ cpLoc 1 ∷ branchCond 3
+    ∷ ret
+    ∷ cpLoc 0 ∷ readRef ∷ cpLoc 1 ∷ add ∷ cpLoc 0 ∷ writeRef
+    ∷ mvLoc 0 ∷ mvLoc 1 ∷ loadConst 1 ∷ subtract ∷ callProcedure 1 ∷ ret
+    ∷ public ∷ parameter 0 0 ∷ parameter 0 0 ∷ mvLoc 0 ∷ borrowGlobal 0 ∷ borrowFld 0 0 ∷ mvLoc 1 ∷ callProcedure 1 ∷ ret ∷ [])
+
+-- A credit of 500 under 7. 3 + 2 + 1 are added in 5 + 3 · 14 + 3 + 1 = 51 instructions; 5 + 13 + 8 = 26 end in the third frame, after it has written; 50 before the last Ret; 15 need a 17th frame
+unfoldable pub callsAdded : List (List ℕ)
+callsAdded =
+    call 0 100 ∷ argument 7 ∷ call 2 51 ∷ argument 7 ∷ argument 3 ∷ call 2 26 ∷ argument 7 ∷ argument 3 ∷ call 2 50 ∷ argument 7 ∷ argument 3
+    ∷ call 2 1000 ∷ argument 7 ∷ argument 15 ∷ []
+
+-- two helpers that call each other, and a public procedure that returns what it gets from them: its Ret is row 25
+unfoldable pub rowsCrossed : List (List ℕ)
+rowsCrossed =
+    trusted ∷ type ∷ guarded
+    ∷ private ∷ parameter 2 0 ∷ result 2 0 ∷ loadConst 0 ∷ branchCond 4 ∷ mvLoc 0 ∷ ret ∷ mvLoc 0 ∷ callProcedure 1 ∷ ret
+    ∷ private ∷ parameter 2 0 ∷ result 2 0 ∷ mvLoc 0 ∷ callProcedure 0 ∷ ret
+    ∷ public ∷ parameter 3 0 ∷ result 2 0 ∷ mvLoc 0 ∷ borrowFld 0 0 ∷ callProcedure 1 ∷ ret ∷ []
+
+-- a helper that hands its three parameters round, (c, a, b) for (a, b, c), and gives the last to a public procedure at row 18; the first of them comes marked
+unfoldable pub rowsRotated : List (List ℕ)
+rowsRotated =
+    trusted ∷ type ∷ guarded
+    ∷ public ∷ parameter 2 0 ∷ ret
+    ∷ private ∷ parameter 2 0 ∷ parameter 2 0 ∷ parameter 2 0
+    ∷ loadConst 0 ∷ branchCond 7 ∷ cpLoc 2 ∷ cpLoc 0 ∷ cpLoc 1 ∷ callProcedure 1 ∷ branch 7 ∷ mvLoc 2 ∷ callProcedure 0 ∷ ret
+    ∷ public ∷ parameter 3 0 ∷ parameter 2 0 ∷ mvLoc 0 ∷ borrowFld 0 0 ∷ cpLoc 1 ∷ mvLoc 1 ∷ callProcedure 1 ∷ ret ∷ []
+
+-- a helper that returns its two parameters the other way round, given a marked reference first; a public procedure takes one result off and returns the other
+unfoldable pub rowsSwapped : List (List ℕ) → List (List ℕ)
+rowsSwapped last =
+    trusted ∷ type ∷ guarded
+    ∷ private ∷ parameter 2 0 ∷ parameter 2 0 ∷ result 2 0 ∷ result 2 0 ∷ mvLoc 1 ∷ mvLoc 0 ∷ ret
+    ∷ public ∷ parameter 3 0 ∷ parameter 2 0 ∷ result 2 0 ∷ mvLoc 0 ∷ borrowFld 0 0 ∷ mvLoc 1 ∷ callProcedure 0 ∷ last
+
+-- a helper that returns its parameter, a public procedure that returns what it gets from it (Ret at row 13), and one whose row 16 jumps to or past a Call that gives a marked reference
+unfoldable pub rowsJumpedOver : ℕ → List (List ℕ)
+rowsJumpedOver to =
+    trusted ∷ type ∷ guarded
+    ∷ private ∷ parameter 2 0 ∷ result 2 0 ∷ mvLoc 0 ∷ ret
+    ∷ public ∷ parameter 2 0 ∷ result 2 0 ∷ mvLoc 0 ∷ callProcedure 0 ∷ ret
+    ∷ public ∷ parameter 3 0 ∷ branch to ∷ mvLoc 0 ∷ borrowFld 0 0 ∷ callProcedure 0 ∷ pop ∷ ret ∷ []
+
+-- a helper that stores its second parameter over its first, which comes marked, and returns it
+unfoldable pub rowsDropped : List (List ℕ)
+rowsDropped =
+    trusted ∷ type ∷ guarded
+    ∷ private ∷ parameter 2 0 ∷ parameter 2 0 ∷ result 2 0 ∷ mvLoc 1 ∷ stLoc 0 ∷ mvLoc 0 ∷ ret
+    ∷ public ∷ parameter 3 0 ∷ parameter 2 0 ∷ result 2 0 ∷ mvLoc 0 ∷ borrowFld 0 0 ∷ mvLoc 1 ∷ callProcedure 0 ∷ ret ∷ []
+
+-- a helper that returns its parameter; a public procedure gives it a marked reference on the way that does not jump: both ways meet at row 18, and what it gets is returned at row 20
+unfoldable pub rowsGivenOnce : List (List ℕ)
+rowsGivenOnce =
+    trusted ∷ type ∷ guarded
+    ∷ private ∷ parameter 2 0 ∷ result 2 0 ∷ mvLoc 0 ∷ ret
+    ∷ public ∷ parameter 3 0 ∷ parameter 2 0 ∷ parameter 0 0 ∷ result 2 0
+    ∷ mvLoc 2 ∷ branchCond 5
+    ∷ cpLoc 0 ∷ borrowFld 0 0 ∷ stLoc 1
+    ∷ mvLoc 1 ∷ callProcedure 0 ∷ ret ∷ []
+
+-- a helper returns one of its parameters at row 10 and one at row 12, the first of them comes marked; a public procedure returns what it gets from it at row 21
+unfoldable pub rowsReturnedAt : ℕ → ℕ → List (List ℕ)
+rowsReturnedAt one other =
+    trusted ∷ type ∷ guarded
+    ∷ private ∷ parameter 2 0 ∷ parameter 2 0 ∷ result 2 0 ∷ loadConst 0 ∷ branchCond 4 ∷ mvLoc one ∷ ret ∷ mvLoc other ∷ ret
+    ∷ public ∷ parameter 3 0 ∷ parameter 2 0 ∷ result 2 0 ∷ mvLoc 0 ∷ borrowFld 0 0 ∷ mvLoc 1 ∷ callProcedure 0 ∷ ret ∷ []
+
+-- a public procedure gives a marked reference to a helper, which returns it; another, below the helper, gives it its own parameter and returns what it gets at row 20
+unfoldable pub rowsCalledTwice : List (List ℕ)
+rowsCalledTwice =
+    trusted ∷ type ∷ guarded
+    ∷ public ∷ parameter 3 0 ∷ mvLoc 0 ∷ borrowFld 0 0 ∷ callProcedure 1 ∷ pop ∷ ret
+    ∷ private ∷ parameter 2 0 ∷ result 2 0 ∷ mvLoc 0 ∷ ret
+    ∷ public ∷ parameter 2 0 ∷ result 2 0 ∷ mvLoc 0 ∷ callProcedure 1 ∷ ret ∷ []
+
+-- a helper of 13 parameters returns one of them, the last of them comes marked; a public procedure returns what it gets from it at row 39
+unfoldable pub rowsThirteen : ℕ → List (List ℕ)
+rowsThirteen returned =
+    (trusted ∷ type ∷ guarded ∷ private ∷ times 13 (parameter 2 0))
+    ++ (result 2 0 ∷ mvLoc returned ∷ ret ∷ public ∷ parameter 3 0 ∷ parameter 2 0 ∷ result 2 0 ∷ times 12 (cpLoc 1))
+    ++ (mvLoc 0 ∷ borrowFld 0 0 ∷ callProcedure 0 ∷ ret ∷ [])
 
 -- a mark that comes on the way that does not jump: both ways meet at row 12, the Call is row 13
 unfoldable pub rowsMarkedOnFallThrough : List (List ℕ)

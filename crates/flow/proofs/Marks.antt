@@ -1,4 +1,4 @@
--- Marks: `localMarked` and `operandMarked` hold exactly where a walk arrives with the mark, and one of at most 33 n instructions does; with no source there is no mark.
+-- Marks: `localMarked` and `operandMarked` hold exactly where a walk arrives with the mark, and one of at most 33 n instructions does.
 use Prim.Native.Nat.{ℕ, zero, suc, _+_, _-_, _*_, _<_, _≤_}
 use mathlib.Core.Path.{_≡_, refl, ap, sym, _∙_}
 use mathlib.Core.List.{List, [], _∷_, List·Memᴰ·eq-of-singleton, List·Memᴰ·not-nil, List·Memᴰ·cases-cons}
@@ -484,72 +484,3 @@ module _ (next : ℕ → List ℕ) (step : ℕ → Step) (given : ℕ → Bool) 
     pub operand-mark-found : {k i : ℕ} {ls : List Slot} {ms : List Bool} → Walk next step (entry given params count) k i ls ms → (j : ℕ) → j < 16
         → getD ms j false ≡ true → operandMarked (markNodes next step given params n) i j ≡ true
     operand-mark-found w j h e = place-found w (onOperand j h e)
-
--- No marks without a source.
-
--- no local, and no operand, is marked
-record Clean (ls : List Slot) (ms : List Bool) : Type 0 where
-  locals : (l : ℕ) → markOf (getD ls l empty) ≡ false
-  operands : (j : ℕ) → getD ms j false ≡ false
-
-set-clean : (ls : List Slot) (i : ℕ) (v : Slot) → markOf v ≡ false → ((l : ℕ) → markOf (getD ls l empty) ≡ false) → (l : ℕ) → markOf (getD (set ls i v) l empty) ≡ false
-set-clean [] i v e h l = h l
-set-clean (s ∷ ls) zero v e h zero = e
-set-clean (s ∷ ls) zero v e h (suc l) = h (suc l)
-set-clean (s ∷ ls) (suc i) v e h zero = h 0
-set-clean (s ∷ ls) (suc i) v e h (suc l) = set-clean ls i v e (λ l. h (suc l)) l
-
-pushed-clean : (xs ms : List Bool) → ((r : ℕ) → getD xs r false ≡ false) → ((j : ℕ) → getD ms j false ≡ false) → (j : ℕ) → getD (pushedOn xs ms) j false ≡ false
-unfolding pushedOn
-pushed-clean [] ms f h j = h j
-pushed-clean (x ∷ xs) ms f h j = pushed-clean xs (x ∷ ms) (λ r. f (suc r)) more j
-  where
-    more : (j : ℕ) → getD (x ∷ ms) j false ≡ false
-    more zero = f 0
-    more (suc j) = h j
-
-top-clean : (n : ℕ) (ms : List Bool) → ((j : ℕ) → getD ms j false ≡ false) → someTop n ms ≡ false
-unfolding someTop
-top-clean zero ms h = refl
-top-clean (suc n) ms h = rw (top-clean n ms h, h n) refl
-
-one-clean : (m : Bool) → m ≡ false → (r : ℕ) → getD (m ∷ []) r false ≡ false
-one-clean m e zero = e
-one-clean m e (suc r) = refl
-
-after-clean : (s : Step) (ls : List Slot) (ms : List Bool) → ((r : ℕ) → getD (s .fresh) r false ≡ false) → Clean ls ms → Clean (localsAfter s ls ms) (marksAfter s ls ms)
-unfolding marksAfter pushes
-after-clean s ls ms f c = record {
-  locals = after-cases s ls ms (λ r. (l : ℕ) → markOf (getD r l empty) ≡ false)
-      (set-clean ls (s .operand) empty refl (c .locals))
-      (set-clean ls (s .operand) (full (topMark ms)) (top-first ms ∙ c .operands 0) (c .locals))
-      (c .locals);
-  operands = pushed-clean (pushes s ls ms) (drop (s .takes) ms) (new (eqb (s .opcode) opMvLoc) (eqb (s .opcode) opCpLoc) (s .carries)) (λ j. getD-drop (s .takes) ms j false ∙ c .operands (s .takes + j));
-}
-  where
-    new : (a b d : Bool) (r : ℕ) → getD (cond a (markOf (getD ls (s .operand) empty) ∷ []) (cond b (markOf (getD ls (s .operand) empty) ∷ []) (cond d (someTop (s .takes) ms ∷ []) (s .fresh)))) r false ≡ false
-    new true b d = one-clean _ (c .locals (s .operand))
-    new false true d = one-clean _ (c .locals (s .operand))
-    new false false true = one-clean _ (top-clean (s .takes) ms (c .operands))
-    new false false false = f
-
-module _ (next : ℕ → List ℕ) (step : ℕ → Step) (given : ℕ → Bool) (params count : ℕ)
-    (noFresh : (i r : ℕ) → getD (step i .fresh) r false ≡ false) (noneGiven : (l : ℕ) → given l ≡ false) where
-  entry-clean : (l : ℕ) → markOf (getD (entry given params count) l empty) ≡ false
-  entry-clean l = go (markOf (getD (entry given params count) l empty)) refl
-    where
-      go : (b : Bool) → markOf (getD (entry given params count) l empty) ≡ b → b ≡ false
-      go true e = sym (entry-inv given params count l e .1) ∙ noneGiven l
-      go false e = refl
-
-  walk-clean : {k i : ℕ} {ls : List Slot} {ms : List Bool} → Walk next step (entry given params count) k i ls ms → Clean ls ms
-  walk-clean starts = record { locals = entry-clean; operands = λ j. refl }
-  walk-clean (goesOn {i = i} {ls = ls} {ms = ms} w m) = after-clean (step i) ls ms (noFresh i) (walk-clean w)
-
-  -- where no instruction makes a mark and none is given, no walk arrives with one in a local
-  pub no-local-mark : {k i : ℕ} {ls : List Slot} {ms : List Bool} → Walk next step (entry given params count) k i ls ms → (l : ℕ) → markOf (getD ls l empty) ≡ false
-  no-local-mark w = walk-clean w .locals
-
-  -- nor on an operand
-  pub no-operand-mark : {k i : ℕ} {ls : List Slot} {ms : List Bool} → Walk next step (entry given params count) k i ls ms → (j : ℕ) → getD ms j false ≡ false
-  no-operand-mark w = walk-clean w .operands

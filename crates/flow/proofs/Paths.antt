@@ -9,6 +9,7 @@ use lib.Arith.{digits-div, digits-mod, digits-lt}
 use lib.ListN.{length, getD, replicate, length-replicate}
 use Rattle.reach.specs.Reach.{Mem, here, there, At, Inside, Walk, start, step, mark}
 use Rattle.reach.proofs.Laws.{none-at, length-mark, mark-new, mark-inv, sound, complete}
+use Rattle.reach.proofs.Settle.{settle-iter}
 use Rattle.flow.specs.Places.{nodesAt, nodesOf, succs, reached}
 use Rattle.flow.specs.Paths.{Path, atFirst, onwards}
 
@@ -105,10 +106,10 @@ module _ (width : ℕ) (next : ℕ → List ℕ) (moves : ℕ → ℕ → List �
   pub path-shown : (i x : ℕ) → x < width → getD (reached width next moves n from) (width * i + x) false ≡ true → (k : ℕ) × (k ≤ width * n) × Path next moves from k i x
   unfolding reached first
   path-shown i x h e =
-      let r = sound (succs width next moves) (width * n) (first width n from) (width * i + x) e in
+      let r = sound (succs width next moves) (width * n) (first width n from) (width * i + x) (rw (settle-iter (succs width next moves) (width * n) (first width n from)) at e) in
       (r .0, r .1, rw (node-div width i x h, node-mod width i x h) at (to-path (r .2)))
 
   -- where a path arrives is reached
   pub path-found : {k i x : ℕ} → Path next moves from k i x → getD (reached width next moves n from) (width * i + x) false ≡ true
   unfolding reached first
-  path-found {k} {i} {x} p = rw length-first at (complete (succs width next moves) (first width n from) inside k (width * i + x) (to-walk p))
+  path-found {k} {i} {x} p = rw (settle-iter (succs width next moves) (width * n) (first width n from)) (rw length-first at (complete (succs width next moves) (first width n from) inside k (width * i + x) (to-walk p)))

@@ -2,4 +2,4 @@ pub mod Steps
 pub mod Walks
 pub mod Places
 pub mod Paths
-pub mod Moves
+pub mod Going

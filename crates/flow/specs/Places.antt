@@ -5,7 +5,7 @@ use mathlib.Core.Bool.{Bool, false, cond, _&&_}
 use mathlib.Core.List.{List, [], _∷_, _++_}
 use lib.Dec.{eqb, ltb}
 use lib.ListN.{length, getD, replicate}
-use Rattle.reach.specs.Reach.{iter, mark}
+use Rattle.reach.specs.Reach.{mark, sweep, settle}
 use Rattle.table.specs.Format.{opMvLoc, opCpLoc, opStLoc}
 use Rattle.flow.specs.Steps.{Step}
 
@@ -24,7 +24,7 @@ succs width next moves u = nodesOf width (next (u / width)) (moves (u / width) (
 
 -- the nodes that are reached from the places `from` of the first of n instructions
 unfoldable pub reached : ℕ → (ℕ → List ℕ) → (ℕ → ℕ → List ℕ) → ℕ → List ℕ → List Bool
-reached width next moves n from = iter (succs width next moves) (width * n) (mark (replicate (width * n) false) from)
+reached width next moves n from = settle (sweep (succs width next moves)) (width * n) (mark (replicate (width * n) false) from)
 
 -- One local: two places, 0 for full and 1 for empty.
 unfoldable pub statusAfter : Step → ℕ → ℕ → ℕ

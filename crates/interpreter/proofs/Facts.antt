@@ -42,7 +42,7 @@ pub record Shown (t T W : List ℕ) (s p i : ℕ) (ops : List Operand) (h : List
   pub gs : List Frame
   pub many : length ops ≡ length vs
   pub owned : Owned (frame s p i vs os ∷ gs) h st
-  pub ok : FrameOk t (indexOf t) T W i [] s p vs os
+  pub ok : FrameOk t (indexOf t) T W i [] [] s p vs os
 
 found : {t : List ℕ} {R D T W : List ℕ} {s p i : ℕ} {ops ls : List Operand} {ms : List MFrame} {fs : List Frame} (h : List Cell) (st : List Entry)
     → ShowsFrames R D (mframe s p i ops ls ∷ ms) fs → Stack t (indexOf t) T W fs → Owned fs h st → Shown t T W s p i ops h st
@@ -68,7 +68,7 @@ module _ (t : List ℕ) (J : Judged t (indexOf t)) where
     pub there : Shown t (l .7 .T) (l .7 .W) (s .serial) (s .procedure) (s .at) (operandsIn cs s) (l .3) (l .4)
     there = found (l .3) (l .4) (l .6 .frames) (l .7 .frames) (l .7 .owned)
 
-    pub F : FrameOk t (indexOf t) (l .7 .T) (l .7 .W) (s .at) [] (s .serial) (s .procedure) (there .vs) (there .os)
+    pub F : FrameOk t (indexOf t) (l .7 .T) (l .7 .W) (s .at) [] [] (s .serial) (s .procedure) (there .vs) (there .os)
     F = there .ok
 
     height : s .height ≡ length (there .vs)

@@ -1,6 +1,7 @@
 -- What an accepted table gives of the frames, rooms and entries of a state on the way: they lie within the bounds of their cells.
 use Prim.Native.Nat.{ℕ, zero, suc, _+_, _-_, _<_, _≤_}
 use mathlib.Core.Path.{_≡_, refl, ap, sym, _∙_}
+use mathlib.Core.Bool.{Bool}
 use mathlib.Core.List.{List, [], _∷_}
 use mathlib.Core.Option.{Option, some}
 use native.Mathlib.Decide.{decLt}
@@ -63,14 +64,14 @@ all-at (also p a) (suc i) e = all-at a i e
 
 module _ (t : List ℕ) (J : Judged t (indexOf t)) {T W : List ℕ} where
   -- the operands, with the results that are still to come
-  pub low-gap : {to : ℕ} {gap : List ℕ} {id p : ℕ} {vs : List Value} {os : List (Option Value)} → FrameOk t (indexOf t) T W to gap id p vs os → length vs + length gap ≤ 16
+  pub low-gap : {to : ℕ} {gap : List ℕ} {G : List Bool} {id p : ℕ} {vs : List Value} {os : List (Option Value)} → FrameOk t (indexOf t) T W to gap G id p vs os → length vs + length gap ≤ 16
   low-gap {gap = gap} {p = p} F =
       let own = procedureIn (indexOf t) p in
       let d = deep t (indexOf t) (guardedMarks t) (guarded-plain t) own _ (J .procedure p (F .there) .some-code) (λ j h. J .instruction p j (F .there) h .flow) (F .walk) in
       omega (arith, has-length (F .has), ap length (good-same (sym (F .kinds) ∙ d .before)), length-onto gap (F .rest), d .depth, d .bounded)
 
-  frame-fits : {R D : List ℕ} {to i : ℕ} {gap : List ℕ} {id p : ℕ} {ops ls : List Operand} {vs : List Value} {os : List (Option Value)}
-      → i ≤ to → FrameOk t (indexOf t) T W to gap id p vs os → ShowsAll R D ops vs → ShowsLocals R D ls os → Fits p i (length ops) (length ls)
+  frame-fits : {R D : List ℕ} {to i : ℕ} {gap : List ℕ} {G : List Bool} {id p : ℕ} {ops ls : List Operand} {vs : List Value} {os : List (Option Value)}
+      → i ≤ to → FrameOk t (indexOf t) T W to gap G id p vs os → ShowsAll R D ops vs → ShowsLocals R D ls os → Fits p i (length ops) (length ls)
   frame-fits {p = p} l F a k =
       let P = J .procedure p (F .there) in record {
         named = P .low;

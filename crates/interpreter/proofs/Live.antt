@@ -80,7 +80,7 @@ module _ (t : List ℕ) (judged : Judged t (indexOf t)) where
       go never k = absurd k
 
   -- the frame that runs
-  module _ {T W : List ℕ} {id p i : ℕ} {vs : List Value} {os : List (Option Value)} (F : FrameOk t (indexOf t) T W i [] id p vs os) where
+  module _ {T W : List ℕ} {id p i : ℕ} {vs : List Value} {os : List (Option Value)} (F : FrameOk t (indexOf t) T W i [] [] id p vs os) where
     pub instr : Instruction t (indexOf t) p i
     instr = judged .instruction p i (F .there) (F .inside)
 

@@ -23,7 +23,7 @@ use Rattle.table.specs.Verdicts.{andThen, valueOf, passOver}
 use Rattle.table.specs.Index.{indexOf}
 use Rattle.rows.specs.declared.Above.{Above}
 use Rattle.rows.specs.Rows as rows
-use Rattle.declarations.specs.Program.{number, codePass, codeOf, localCount}
+use Rattle.declarations.specs.Program.{number, procedureIn, codePass, codeOf, localCount}
 use Rattle.declarations.proofs.Passes.{refused-accepted, refused-number, pass-first}
 use Rattle.names.specs.Names as names
 use Rattle.effects.specs.Kinds.{Kinds, good, bad, failed, taken, pushed, takenAll, pushedAll, faultAfter}
@@ -32,7 +32,9 @@ use Rattle.operands.specs.Flow.{effectIn}
 use Rattle.operands.specs.Operands.{lastOfBlock, after, kindsBefore, codeFault, operandsOf, operandsWith}
 use Rattle.locals.specs.Locals.{needsFull, leavesEmpty, leavesRecord, leavesSome, localFault, localsOf}
 use Rattle.steps.specs.Steps.{marksOf}
-use Rattle.leaks.specs.Leaks.{guardedMarks, inTrusted, someMarked, leakIn, leakFrom, leakFault, leaksOf}
+use Rattle.flow.specs.Places.{operandMarked}
+use Rattle.helpers.specs.Tables.{isPrivate, isHelper, marksUnder, marksIn}
+use Rattle.leaks.specs.Leaks.{inTrusted, someMarked, leakIn, leakFrom, leakFault, leaksOf}
 use Rattle.judging.specs.Judging.{judgeOf, inOrder, passes, UpToOperands}
 use Rattle.judging.proofs.Laws.{accepted-here}
 use Rattle.judging.proofs.Accepts.{length-rows, over-rows, code-rows}
@@ -182,12 +184,13 @@ unfolding localsOf
 locals-number t = code-number localRefusals _ (λ q. local-low t) (indexOf t) t
 
 -- leaks
-leak-low : (t : List ℕ) (ix : Index) (q : ℕ) (p : ProcedureEntry) (i : ℕ) → Among leakRefusals (leakFault t ix q p i)
+leak-low : (t : List ℕ) (ix : Index) (m : List Bool) (q : ℕ) (p : ProcedureEntry) (i : ℕ) → Among leakRefusals (leakFault t ix m q p i)
 unfolding leakFault leakFrom leakIn member
-leak-low t ix q p i =
+leak-low t ix m q p i =
     let op = rowAt (codeOf t p) i .a in
-    let marked = someMarked (marksOf t ix (guardedMarks t) q p) i (effectIn t ix p number i .takes) in
-    when (inTrusted t ix p) _ (one (eqb op opCall && marked) leakRefusals markGiven _ refl (one (eqb op opRet && marked) leakRefusals markReturned 0 refl (inl refl)))
+    let helper = isHelper t p (procedureIn ix (rowAt (codeOf t p) i .b)) in
+    let marked = someMarked (operandMarked (marksOf t ix (marksUnder t m) q p) i) (effectIn t ix p number i .takes) in
+    when (inTrusted t ix p) _ (one (eqb op opCall && not helper && marked) leakRefusals markGiven _ refl (one (eqb op opRet && not (isPrivate t p) && marked) leakRefusals markReturned 0 refl (inl refl)))
   where
     when : (b : Bool) (f : ℕ) → Among leakRefusals f → Among leakRefusals (cond b f 0)
     when true f w = w
@@ -195,7 +198,7 @@ leak-low t ix q p i =
 
 pub leaks-number : (t : List ℕ) {number row : ℕ} → leaksOf t ≡ Refused number row → member number leakRefusals ≡ true
 unfolding leaksOf
-leaks-number t = code-number leakRefusals _ (leak-low t (indexOf t)) (indexOf t) t
+leaks-number t = code-number leakRefusals _ (leak-low t (indexOf t) (marksIn t)) (indexOf t) t
 
 -- a pass that does not refuse so accepts, and a later one refuses so
 passed : (pass : List ℕ → Verdict) (later : List (List ℕ → Verdict)) (t : List ℕ) {number row : ℕ} → inOrder (pass ∷ later) t ≡ Refused number row → (pass t ≡ Refused number row → ⊥)

@@ -1,5 +1,5 @@
 -- The value of a verdict, a row or the number of rows, is at most 2,048.
-use Prim.Native.Nat.{ℕ, zero, suc, _+_, _-_, _%_, _<_, _≤_}
+use Prim.Native.Nat.{ℕ, zero, suc, _+_, _%_, _<_, _≤_}
 use mathlib.Core.Path.{_≡_, refl}
 use mathlib.Core.Bool.{Bool, true, false, cond, not, _||_}
 use mathlib.Core.List.{List, [], _∷_}
@@ -23,9 +23,9 @@ use Rattle.declarations.proofs.Laws.{procedure-ends}
 use Rattle.names.specs.Names.{namesOf, namesWith}
 use Rattle.operands.specs.Operands.{operandsOf, operandsWith}
 use Rattle.locals.specs.Locals.{localsOf}
+use Rattle.sizes.proofs.Sizes.{part-between}
 use Rattle.leaks.specs.Leaks.{leaksOf}
 use Rattle.judging.specs.Judging.{judgeOf, inOrder, passes}
-use Rattle.judging.proofs.Sizes.{part-between}
 
 -- a pass over rows answers a row at most as high as it has come
 pub first-value : (bad : ℕ → ℕ → Verdict) (start : ℕ) → ((k j : ℕ) → valueOf (bad k j) ≤ start + j) → (f : ℕ → ℕ) (i left : ℕ) → valueOf (firstFault Accepted bad f i left) ≤ start + i + left

@@ -1,4 +1,2 @@
-pub mod Moves
 pub mod Laws
-pub mod Lists
-pub mod Unmarked
+pub mod Read

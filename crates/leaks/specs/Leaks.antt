@@ -1,36 +1,26 @@
 -- The leaks pass: refusals 13 and 14 of document 01 ("escape analysis" in the field), in trusted modules only.
-use Prim.Native.Nat.{ℕ, _%_}
-use mathlib.Core.Bool.{Bool, false, cond, _&&_, _||_}
+use Prim.Native.Nat.{ℕ}
+use mathlib.Core.Bool.{Bool, false, cond, not, _&&_, _||_}
 use mathlib.Core.List.{List, [], _∷_}
 use lib.Dec.{eqb}
 use lib.ListN.{length, getD}
-use Rattle.table.specs.declared.Row.{Row}
 use Rattle.table.specs.declared.Verdict.{Verdict}
 use Rattle.table.specs.declared.index.Index.{Index}
-use Rattle.table.specs.declared.index.TypeEntry.{TypeEntry}
 use Rattle.table.specs.declared.index.ProcedureEntry.{ProcedureEntry}
-use Rattle.table.specs.Format.{opBorrowFld, opCall, opRet}
+use Rattle.table.specs.Format.{opCall, opRet}
 use Rattle.table.specs.Rows.{rowAt}
 use Rattle.table.specs.Index.{indexOf}
 use Rattle.table.specs.Refusals.{markGiven, markReturned}
-use Rattle.table.specs.Flags.{isTrusted, isGuarded}
-use Rattle.declarations.specs.Program.{number, numberRef, fieldRow, codeOf, codePass}
+use Rattle.table.specs.Flags.{isTrusted}
+use Rattle.declarations.specs.Program.{number, numberRef, procedureIn, codeOf, codePass}
 use Rattle.operands.specs.Flow.{effectIn}
 use Rattle.flow.specs.Places.{operandMarked}
 use Rattle.steps.specs.Steps.{Marking, marksOf}
+use Rattle.helpers.specs.Tables.{isPrivate, isHelper, marksUnder, marksIn}
 
--- whether BorrowFld borrows a guarded field
-unfoldable pub borrowsGuarded : List ℕ → TypeEntry → Row → Bool
-borrowsGuarded t named row = eqb (row .a) opBorrowFld && isGuarded (rowAt t (fieldRow named (row .b % 8)))
-
--- A walk's mark stands on a reference made by BorrowFld of a guarded field, read-only or not; 13 and 14 ask of writable ones alone. No parameter starts
--- marked, and marks go with copies through locals alone, so that what Freeze gives is unmarked
+-- the marks of guarded references: under the smallest marks that calls of helpers give
 abbrev pub guardedMarks : List ℕ → Marking
-guardedMarks t = record {
-  starts = λ (q l : ℕ). false;
-  makes = λ (named : TypeEntry) (row : Row) (r : ℕ). borrowsGuarded t named row;
-  carries = λ (row : Row). false;
-}
+guardedMarks t = marksUnder t (marksIn t)
 
 -- whether the module at a row is trusted, and whether a procedure stands in such a one
 abbrev pub trustedAt : List ℕ → ℕ → Bool
@@ -39,27 +29,30 @@ trustedAt t row = isTrusted (rowAt t row)
 unfoldable pub inTrusted : List ℕ → Index → ProcedureEntry → Bool
 inTrusted t ix p = trustedAt t (getD (ix .«module_rows») (p .owner) 0)
 
--- Whether some walk arrives at instruction i with a mark on a writable reference, among operands of these kinds, the last on top. A read-only reference is
+-- Whether some one of operands of these kinds, the last on top, is a writable reference and marked: `marked` tells of each operand, counted from the top. A read-only reference is
 -- never marked: one that BorrowFld of a guarded field made does not count
-unfoldable pub someMarked : List Bool → ℕ → List ℕ → Bool
-someMarked nodes i [] = false
-someMarked nodes i (k ∷ ks) = (eqb k numberRef && operandMarked nodes i (length ks)) || someMarked nodes i ks
+unfoldable pub someMarked : (ℕ → Bool) → List ℕ → Bool
+someMarked marked [] = false
+someMarked marked (k ∷ ks) = (eqb k numberRef && marked (length ks)) || someMarked marked ks
 
--- 13: a marked reference given to a Call; 14: a marked reference returned; by opcode and the kinds that the instruction takes
-unfoldable pub leakIn : List Bool → ℕ → List ℕ → ℕ → ℕ
-leakIn nodes op takes i =
-    cond (eqb op opCall && someMarked nodes i takes) markGiven
-    (cond (eqb op opRet && someMarked nodes i takes) markReturned 0)
+-- 13: a marked reference given to a Call of a procedure that is no helper; 14: a marked reference that a procedure returns which is not private; by opcode and the kinds that the
+-- instruction takes
+unfoldable pub leakIn : (ℕ → Bool) → ℕ → Bool → Bool → List ℕ → ℕ
+leakIn marked op helper hidden takes =
+    cond (eqb op opCall && not helper && someMarked marked takes) markGiven
+    (cond (eqb op opRet && not hidden && someMarked marked takes) markReturned 0)
 
 -- of procedure q, whose entry is p, in a table with this index
 module _ (t : List ℕ) (ix : Index) where
-  -- the number that instruction i earns in a trusted module, from where marks come to
-  unfoldable pub leakFrom : ProcedureEntry → List Bool → ℕ → ℕ
-  leakFrom p nodes i = leakIn nodes (rowAt (codeOf t p) i .a) (effectIn t ix p number i .takes) i
+  -- the number that instruction i earns in a trusted module, where `marked` tells on which operands some walk arrives with a mark
+  unfoldable pub leakFrom : ProcedureEntry → (ℕ → ℕ → Bool) → ℕ → ℕ
+  leakFrom p marked i =
+      leakIn (marked i) (rowAt (codeOf t p) i .a) (isHelper t p (procedureIn ix (rowAt (codeOf t p) i .b))) (isPrivate t p) (effectIn t ix p number i .takes)
 
-  unfoldable pub leakFault : ℕ → ProcedureEntry → ℕ → ℕ
-  leakFault q p = let nodes = marksOf t ix (guardedMarks t) q p in λ (i : ℕ). cond (inTrusted t ix p) (leakFrom p nodes i) 0
+  -- under marks m
+  unfoldable pub leakFault : List Bool → ℕ → ProcedureEntry → ℕ → ℕ
+  leakFault m q p = let nodes = marksOf t ix (marksUnder t m) q p in λ (i : ℕ). cond (inTrusted t ix p) (leakFrom p (operandMarked nodes) i) 0
 
 -- the leaks pass over a table
 unfoldable pub leaksOf : List ℕ → Verdict
-leaksOf t = codePass (leakFault t (indexOf t)) (indexOf t) t
+leaksOf t = let m = marksIn t in codePass (leakFault t (indexOf t) m) (indexOf t) t

@@ -1,3 +1,2 @@
 pub mod Leaks
-pub mod Within
-pub mod Unmarked
+pub mod Read

@@ -14,6 +14,7 @@ use Rattle.laws.specs.First.{firstFault}
 use Rattle.reach.specs.Reach.{Mem, Inside, mark}
 use Rattle.reach.specs.Search.{Searched, entering}
 use Rattle.reach.proofs.Laws.{length-mark}
+use Rattle.reach.proofs.Settle.{settle-iter}
 use Rattle.reach.proofs.Search.{search-one, taken, finish, tail-le, queued-below}
 use Rattle.table.specs.declared.Row.{Row}
 use Rattle.table.specs.declared.Verdict.{Verdict}
@@ -25,9 +26,8 @@ use Rattle.declarations.specs.Program.{codeOf, codeVerdict, localCount, localKi
 use Rattle.flow.specs.Steps.{below, nextOf, nexts}
 use Rattle.flow.specs.Places.{nodesOf as nodesFrom, succs, localMoves, statusAfter, startStatus, localNodes, reached, canBeEmpty, canBeFull}
 use Rattle.flow.proofs.Paths.{node-div, node-mod}
-use Rattle.flow.specs.declared.Moves.{Moves}
 use Rattle.flow.specs.declared.Going.{Going}
-use Rattle.flow.specs.Moves.{placesOf, added, GoesOn}
+use Rattle.flow.specs.Going.{GoesOn}
 use Rattle.flow.proofs.Laws.{graph-inside, next-below}
 use Rattle.locals.specs.declared.LocalSet.{LocalSet}
 use Rattle.locals.specs.Sets.{those}
@@ -72,9 +72,9 @@ module _ (code : List ℕ) (params l : ℕ) where
   abbrev pub Waiting : List Bool → List ℕ → ℕ → ℕ → Type 0
   Waiting seen queue head tail = Searched graph first seen queue head tail (length first)
 
-  -- and one that went on so
-  abbrev pub Followed : List Bool → List ℕ → ℕ → Going → Type 0
-  Followed seen queue head r = Searched graph first seen queue head (r .tail) (cond (r .going) (2 * r .at + r .place) (length first))
+  -- and one that went on so, with status y
+  abbrev pub Followed : List Bool → List ℕ → ℕ → ℕ → Going → Type 0
+  Followed seen queue head y r = Searched graph first seen queue head (r .tail) (cond (r .going) (2 * r .at + y) (length first))
 
   status-below : (i x y : ℕ) → x < 2 → Mem y (localMoves (bareStep code) l i x) → y < 2
   unfolding localMoves
@@ -88,11 +88,11 @@ module _ (code : List ℕ) (params l : ℕ) where
 
   -- the nodes that go on from a node, with what the code reads and computes of it
   nodes-after :
-      (i x : ℕ) {row : Row} {ys : List ℕ}
+      (i x : ℕ) {row : Row} {y : ℕ}
       → x < 2
       → row ≡ rowAt code i
-      → ys ≡ statusAfter (rowStep row) l x ∷ []
-      → graph (2 * i + x) ≡ nodesFrom 2 (below (rowCount code) (nextOf row i)) ys
+      → y ≡ statusAfter (rowStep row) l x
+      → graph (2 * i + x) ≡ nodesFrom 2 (below (rowCount code) (nextOf row i)) (y ∷ [])
   unfolding succs nexts localMoves
   nodes-after i x h e q = rw (node-div 2 i x h, node-mod 2 i x h, q, e)
 
@@ -111,19 +111,19 @@ module _ (code : List ℕ) (params l : ℕ) where
   module _ {seen : List Bool} {queue : List ℕ} {head tail i x : ℕ} (state : Spreading seen queue head tail i x) where
     -- the search goes on from the node that is followed
     pub local-on :
-        {row : Row} {ys : List ℕ} {more : List Bool} {longer : List ℕ} {r : Going}
+        {row : Row} {y : ℕ} {more : List Bool} {longer : List ℕ} {r : Going}
         → rowCount code ≤ 256
         → i < rowCount code
         → x < 2
         → row ≡ rowAt code i
-        → ys ≡ statusAfter (rowStep row) l x ∷ []
-        → GoesOn 2 (rowCount code) row i ys seen queue tail more longer r
-        → Followed more longer head r
+        → y ≡ statusAfter (rowStep row) l x
+        → GoesOn 2 (rowCount code) row i y seen queue tail more longer r
+        → Followed more longer head y r
     local-on few h k e q on = on .search graph first head (2 * i + x) (nodes-after i x k e q) inside length-first (omega (arith, length-first)) (omega (arith, length-first)) state
 
   -- it follows a node, or nothing
-  module _ {seen : List Bool} {queue : List ℕ} {head : ℕ} (r : Going) (state : Followed seen queue head r) where
-    pub local-still : r .going ≡ true → Spreading seen queue head (r .tail) (r .at) (r .place)
+  module _ {seen : List Bool} {queue : List ℕ} {head : ℕ} (y : ℕ) (r : Going) (state : Followed seen queue head y r) where
+    pub local-still : r .going ≡ true → Spreading seen queue head (r .tail) (r .at) y
     local-still e = rw e at state
 
     pub local-rests : r .going ≡ false → Waiting seen queue head (r .tail)
@@ -141,12 +141,7 @@ module _ (code : List ℕ) (params l : ℕ) where
 
     pub local-found : tail ≤ head → seen ≡ nodesOf code params l
     unfolding nodesOf localNodes reached
-    local-found h = rw length-first at (finish state (omega arith) h)
-
--- one place
-pub one-place : (m : Moves) {y z : ℕ} → placesOf m ≡ added (placesOf (record { len = 0; places = 0 })) y → y ≡ z → placesOf m ≡ z ∷ []
-unfolding placesOf added
-one-place m e h = rw (← h) e
+    local-found h = (rw length-first at (finish state (omega arith) h)) ∙ sym (settle-iter _ (2 * rowCount code) _)
 
 -- the nodes of l locals
 pub nodes-fit : (n l : ℕ) → n ≤ 256 → l ≤ 16 → 2 * n * l ≤ 8192

@@ -12,7 +12,6 @@ ghost use Rattle.locals.specs.Sets.{inserted, contains, those};
 ghost use Rattle.locals.specs.Locals.{rowStep, needsFull, nodesOf, localFault};
 ghost use Rattle.locals.specs.Faults.{emptyAt, fullAt, recordAt, someRecord, faultFrom};
 ghost use Rattle.locals.specs.Within.{localsWithin};
-use flow::Moves;
 use table::Row;
 use table::Verdict;
 use table::format;
@@ -84,11 +83,10 @@ fn spread_local(visited: &mut [bool], queue: &mut [u16], code: &[u8], params: us
     loop {
         let row = table::row_at(code, i);
         let y = status_after(row, l, x);
-        let moves = Moves::NONE.add(y as u16);
-        let on = flow::go_on(visited, queue, tail, 2, n, row, i, moves);
+        let on = flow::go_on(visited, queue, tail, 2, n, row, i, y as u16);
         tail = on.tail;
         i = on.at;
-        x = on.place;
+        x = y;
         if on.going {
             continue;
         }

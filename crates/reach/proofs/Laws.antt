@@ -80,11 +80,6 @@ count-le [] = omega arith
 count-le (true ∷ s) = omega (arith, count-le s)
 count-le (false ∷ s) = omega (arith, count-le s)
 
-pub count-none : (n : ℕ) → countTrue (replicate n false) ≡ 0
-unfolding countTrue
-count-none zero = refl
-count-none (suc n) = count-none n
-
 -- a new node adds one to the count
 pub count-set : (s : List Bool) (v : ℕ) → v < length s → (At s v → ⊥) → countTrue (set s v true) ≡ countTrue s + 1
 unfolding countTrue
@@ -99,7 +94,7 @@ pub count-lt : (s : List Bool) (v : ℕ) → v < length s → (At s v → ⊥) �
 count-lt s v h n = omega (arith, count-set s v h n, count-le (set s v true), length-set s v true)
 
 -- a set with as many nodes that holds another has more in it, or is the other
-grow : (s t : List Bool) → length s ≡ length t → ((v : ℕ) → At s v → At t v) → (countTrue s < countTrue t) ⊎ (t ≡ s)
+pub grow : (s t : List Bool) → length s ≡ length t → ((v : ℕ) → At s v → At t v) → (countTrue s < countTrue t) ⊎ (t ≡ s)
 unfolding countTrue
 grow [] [] e h = inr refl
 grow [] (y ∷ t) e h = absurd (omega arith)

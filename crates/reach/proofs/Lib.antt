@@ -1,3 +1,4 @@
 pub mod Laws
+pub mod Settle
 pub mod Search
 pub mod Same

@@ -1,7 +1,7 @@
 -- Laws of the search: where it starts, what a visit keeps and adds, how a node is followed, and that a search in which nothing waits and nothing is followed has
 -- found what is reached.
 use Prim.Native.Nat.{ℕ, suc, _+_, _<_, _≤_}
-use mathlib.Core.Path.{_≡_, refl, ap, sym, subst⁻¹, _∙_}
+use mathlib.Core.Path.{_≡_, refl, sym, subst⁻¹, _∙_}
 use mathlib.Core.List.{List, [], _∷_}
 use mathlib.Core.Bool.{Bool, true, false, not, _&&_, false≢true, and-false}
 use mathlib.Core.Logic.{_⊎_, ⊎-elim}
@@ -244,15 +244,6 @@ module _ {succs : ℕ → List ℕ} {s seen : List Bool} {queue : List ℕ} {hea
       closed u v a (expanded all) m = all v m
 
 -- Visits of a list of nodes.
-
--- one visit after the other
-pub visits-none : (x : Visit) → visitAll x [] ≡ x
-unfolding visitAll
-visits-none x = refl
-
-pub visits-more : (y : Visit) (v : ℕ) (vs : List ℕ) {x : Visit} → x ≡ visitOf (y .visited) (y .queue) (y .tail) v → visitAll y (v ∷ vs) ≡ visitAll x vs
-unfolding visitAll
-visits-more y v vs e = ap (λ (x : Visit). visitAll x vs) (sym e)
 
 -- what each visit keeps, all keep
 pub visits-by :

@@ -2,13 +2,15 @@
 use Prim.Native.Nat.{ℕ, _+_, _-_, _/_, _%_, _<_, _≤_}
 use mathlib.Core.Path.{_≡_, refl, ap, sym, _∙_}
 use mathlib.Core.List.{List, [], _∷_, _++_, map}
-use mathlib.Core.Bool.{Bool, true, false, cond, _&&_, or-true, true≢false}
+use mathlib.Core.Bool.{Bool, true, false, cond, not, _&&_, or-true, true≢false}
 use mathlib.Core.Option.{Option, none, some}
 use mathlib.Core.Logic.{_⊎_, inl, inr, ⊎-elim}
 use native.Mathlib.Omega.{arith}
-use lib.ListN.{length, getD, set, drop, length-append, length-map, getElem? as nth}
+use lib.ListN.{length, getD, set, drop, length-append, getElem? as nth}
 use lib.Dec.{eqb, ltb}
-use borrow.Author.Tests.{eqb-true, ltb-true, not-true}
+use borrow.Author.Tests.{eq-eqb, eqb-true, ltb-true, not-true}
+use Rattle.laws.specs.Lists.{tabulate}
+use Rattle.laws.proofs.Lists.{length-tabulate}
 use Rattle.table.specs.Format
 use Rattle.table.specs.Index.{indexOf}
 use Rattle.declarations.specs.Program.{number, numberRef, recordRef, referenceTo, frozen, isRecord, procedureIn, typeIn, fieldKinds, resultKinds, codeOf, localCount, localKind, instructionIn}
@@ -19,8 +21,10 @@ use Rattle.operands.specs.Flow.{onto, effectIn}
 use Rattle.flow.specs.Steps.{nexts}
 use Rattle.flow.specs.Walks.{Slot, empty, full, markOf, topMark, pushedOn as marksOn}
 use Rattle.locals.specs.Locals.{needsFull}
-use Rattle.acceptance.specs.Checked.{Unmarked}
-use Rattle.acceptance.specs.Judged.{localKinds}
+use Rattle.helpers.specs.Marks.{resultOf}
+use Rattle.helpers.specs.Tables.{isPrivate, isHelper, marksIn}
+use Rattle.acceptance.specs.Checked.{startsIn, Unmarked, MarkedAs}
+use Rattle.acceptance.specs.Judged.{localKinds, Judged}
 use Rattle.arithmetic.specs.declared.Calculated.{Calculated}
 use Rattle.arithmetic.specs.declared.Calculated.the-variants.{Value as Gives, TooLarge, BelowZero, Unknown}
 use Rattle.arithmetic.specs.Arithmetic.{calculation}
@@ -35,11 +39,11 @@ use Rattle.semantics.proofs.Counts.{held-rev, held-set, held-start, hea
 use Rattle.semantics.proofs.Changes.{clash, same, wrote, packed, unpacked, published, withdrew}
 use Rattle.semantics.proofs.Sounds.{nth-inside}
 use Rattle.semantics.proofs.Sorts.{number-writable, record-writable, is-writable, as-loose, reads-as, alike-as}
-use Rattle.semantics.proofs.Typing.{Word, Fit, fnum, fobj, floc, ffld, frec, Has, hnil, hcons, has-push, has-more, Slots, slots-more, Fields, CellOk, cells-more, EntryOk, entries-more, snoc-more, snoc-last}
+use Rattle.semantics.proofs.Typing.{Word, Fit, fnum, fobj, floc, ffld, frec, Has, hnil, hcons, has-push, has-more, may-go, Slots, slots-more, Fields, CellOk, cells-more, EntryOk, entries-more, snoc-more, snoc-last}
 use Rattle.semantics.proofs.Places.{as-fields, of-fields, loose, as-number, as-record, as-writable, slot-full, slot-clear, slot-put, slot-free, emptied}
-use Rattle.semantics.proofs.Frames.{Suspended, bottom, over, suspended-more, runs, typeOf, write, held-local, cell-at, all-set, all-snoc, types-set, types-snoc, types-length, find-key, drop-key, field-put, NumberAt, lost, inALocal, inAField, number-at, RecordAt, lostRecord, leads, record-at, FieldAt, numberField, recordField, field-at}
+use Rattle.semantics.proofs.Frames.{resultMarks, Suspended, bottom, over, suspended-more, runs, typeOf, write, held-local, cell-at, all-set, all-snoc, types-set, types-snoc, types-length, find-key, drop-key, field-put, NumberAt, lost, inALocal, inAField, number-at, RecordAt, lostRecord, leads, record-at, FieldAt, numberField, recordField, field-at}
 use Rattle.semantics.proofs.Entering.{entered, has-length}
-use Rattle.semantics.proofs.Instructions.{effect-at, locals-kept, locals-moved, locals-stored, pushes-moved, pushes-copied, pushes-field, pushes-length}
+use Rattle.semantics.proofs.Instructions.{effect-at, locals-kept, locals-moved, locals-stored, pushes-moved, pushes-copied, pushes-field, pushes-called, pushes-length}
 use Rattle.semantics.proofs.Running.{OutcomeOk, Running, one-taken, two-taken, none-taken, push-none, push-one, target-same, given, pushedMarks, localsThen, Did, stands, waits, goes-on, then, keeps}
 
 -- both of two
@@ -378,17 +382,23 @@ module _ {t : List ℕ} {T W : List ℕ} {id p i : ℕ} {ops vs under : List Val
       (λ free. keeps R (λ q. omega (arith, e, q)) (i + 1) (fall 14 e (λ z. omega arith) (λ z. omega arith)) (a-value 14 e refl (λ m. fnum (omega arith) refl)) (kept 14 e refl refl) (λ r. omega (arith, R .owned r, ap (inValues r) (a .1))))
       (λ j z. keeps R (λ q. omega (arith, e, q)) (i + 1) (fall 14 e (λ z. omega arith) (λ z. omega arith)) (a-value 14 e refl (λ m. fnum (omega arith) refl)) (kept 14 e refl refl) (λ r. omega (arith, R .owned r, ap (inValues r) (a .1)))))
 
-  -- no writable reference to a number that a Call or a Ret takes is marked
-  clean : (a : ℕ) → op ≡ a → Unmarked (effect a .takes) (R .O)
-      → (m : ℕ) (cs : List Bool) → length cs ≡ length (effect a .takes) → Has t (indexOf t) T W m vs (effect a .takes) cs
-  clean a e f m cs l =
-      let g = ap (λ (x : Effect). x .takes) (effect-is a e) in
-      rw g at (R .out m cs (l ∙ ap length (sym g)) (λ before after q. f before after (sym g ∙ q)))
+  -- what a Call or a Ret takes goes to places with these marks: within the module marked where it is, elsewhere unmarked
+  crosses : (a : ℕ) → op ≡ a → (m : ℕ) (marked : ℕ → Bool) (inner : Bool) → (inner ≡ true → (moduleIn (indexOf t) p ≡ m) × MarkedAs (effect a .takes) (R .O) marked) → (inner ≡ false → Unmarked (effect a .takes) (R .O))
+      → Has t (indexOf t) T W m vs (effect a .takes) (tabulate marked (length (effect a .takes)))
+  crosses a e m marked inner f g =
+      let ks = ap (λ (x : Effect). x .takes) (effect-is a e) in
+      rw ks at (R .out m (tabulate marked (length (effect a .takes))) (length-tabulate _ _ ∙ ap length (sym ks)) (rw ks (may-go (moduleIn (indexOf t) p) m (effect a .takes) (R .O) marked inner f g)))
+
+  -- a helper stands in the same module
+  helper-near : isHelper t (procedureIn (indexOf t) p) (procedureIn (indexOf t) b) ≡ true → moduleIn (indexOf t) p ≡ moduleIn (indexOf t) b
+  unfolding isHelper
+  helper-near h = sym (eqb-true _ _ (and-both (isPrivate t (procedureIn (indexOf t) b)) _ h .1))
 
   pub ok-call : Case 15
   unfolding actions effects
   ok-call e =
       let later = snoc-more W b in
+      let c = R .instr .checked (R .walk) in
       within (Did R) (ltb (length fs + 1) 16) 36 _
       (λ lt. (
         record {
@@ -398,8 +408,8 @@ module _ {t : List ℕ} {T W : List ℕ} {id p i : ℕ} {ops vs under : List Val
           serial = simp length-append (omega (arith, R .serial));
           frames = runs
               (entered (R .judged) n b (R .instr .called e) (rw (R .serial) at (snoc-last W b)) vs
-              (λ cs l. has-more (λ i u z. z) later (clean 15 e (R .instr .checked (R .walk) .none-given e) (moduleIn (indexOf t) b) cs l)))
-              (over e refl (rw (given-at 15 e) at (waits R {U = T} {X = W ++ (b ∷ [])} (λ i u z. z) later (fall 15 e (λ z. omega arith) (λ z. omega arith)) marks-length (kept 15 e refl refl))) (suspended-more (λ i u z. z) later (R .suspended)));
+              (has-more (λ i u z. z) later (crosses 15 e (moduleIn (indexOf t) b) (startsIn t b) (isHelper t (procedureIn (indexOf t) p) (procedureIn (indexOf t) b)) (λ h. (helper-near h, c .given-marked e h)) (c .none-given e))))
+              (over e refl (rw (given-at 15 e, pushes-called t (indexOf t) (procedureIn (indexOf t) p) i (R .L) (R .O) e) at (waits R {U = T} {X = W ++ (b ∷ [])} (λ i u z. z) later (fall 15 e (λ z. omega arith) (λ z. omega arith)) (kept 15 e refl refl))) (suspended-more (λ i u z. z) later (R .suspended)));
           records = R .records;
           store = R .store;
           owned = λ r. omega (arith, R .owned r, held-start r vs (localCount (procedureIn (indexOf t) b) - length vs));
@@ -469,17 +479,17 @@ unfolding allNumbers
 are-numbers [] e hnil = none-left
 are-numbers (k ∷ ks) e (hcons f h) = let c = and-both _ _ e in also (as-number f (eqb-true k number (c .0))) (are-numbers ks (c .1) h)
 
--- the results reach the caller
-pub arrive : {t : List ℕ} {T W : List ℕ} {q : ℕ} {fs : List Frame} (vs : List Value) (h : List Cell) (st : List Entry) (n : ℕ) → Suspended t (indexOf t) T W q fs
-    → ((m : ℕ) (cs : List Bool) → length cs ≡ length (resultKinds t (procedureIn (indexOf t) q)) → Has t (indexOf t) T W m vs (resultKinds t (procedureIn (indexOf t) q)) cs)
+-- the results reach the caller; that of a private procedure stands in the same module
+pub arrive : {t : List ℕ} {T W : List ℕ} {q : ℕ} {fs : List Frame} → Judged t (indexOf t) → (vs : List Value) (h : List Cell) (st : List Entry) (n : ℕ) → Suspended t (indexOf t) T W q fs
+    → ((m : ℕ) → (isPrivate t (procedureIn (indexOf t) q) ≡ true → moduleIn (indexOf t) q ≡ m) → Has t (indexOf t) T W m vs (resultKinds t (procedureIn (indexOf t) q)) (resultMarks t (indexOf t) q))
     → map typeOf h ≡ T → length W ≡ n → All (CellOk t (indexOf t) T) h → All (EntryOk T) st → ((r : ℕ) → inValues r vs + inFrames r fs + inRecords r h + inStore r st ≡ livesAt h r)
     → (C : List Cell → List Entry → Type 0) → C h st → OutcomeOk t C (returned fs vs h st n)
-unfolding onto marksOn
-arrive {t} {T} {q} vs h st n (bottom z x) a ty se hp sr g C c =
+unfolding onto marksOn isPrivate
+arrive {t} {T} {q} J vs h st n (bottom z x) a ty se hp sr g C c =
     let ks = resultKinds t (procedureIn (indexOf t) q) in
-    let given = a 0 (map (λ (k : ℕ). false) ks) (length-map ks (λ (k : ℕ). false)) in
+    let given = a (moduleIn (indexOf t) q) (λ y. refl) in
     (record { T = T; types = ty; records = hp; store = sr; owned = λ r. omega (arith, g r, numbers-hold ks z given r) }, c, are-numbers ks z given, rw (has-length given) x)
-arrive {t} {T} {W} vs h st n (over {p} {ops} e d f s) a ty se hp sr g C c = (
+arrive {t} {T} {W} {q} J vs h st n (over {p} {i} {ops} e d f s) a ty se hp sr g C c = (
   record {
     T = T;
     W = W;
@@ -490,13 +500,11 @@ arrive {t} {T} {W} vs h st n (over {p} {ops} e d f s) a ty se hp sr g C c = (
       there = f .there;
       inside = f .inside;
       rest = _;
-      O = marksOn (f .G) (f .O);
-      G = [];
+      O = marksOn (resultMarks t (indexOf t) q) (f .O);
       L = f .L;
       len = f .len;
-      gaps = refl;
       kinds = f .kinds;
-      has = has-push (a (moduleIn (indexOf t) p) (f .G) (f .gaps)) (f .has);
+      has = has-push (a (moduleIn (indexOf t) p) near) (f .has);
       slots = f .slots;
       walk = f .walk;
     }) s;
@@ -506,6 +514,9 @@ arrive {t} {T} {W} vs h st n (over {p} {ops} e d f s) a ty se hp sr g C c = (
   },
   c,
 )
+  where
+    near : isPrivate t (procedureIn (indexOf t) q) ≡ true → moduleIn (indexOf t) q ≡ moduleIn (indexOf t) p
+    near y = ⊎-elim (λ o. absurd (true≢false (sym y ∙ ap not (eq-eqb _ 1 (rw d at o))))) (λ o. rw d at o) (J .instruction p i (f .there) (omega (arith, f .inside)) .flow .mayCall e)
 
 module _ {t : List ℕ} {T W : List ℕ} {id p i : ℕ} {ops vs under : List Value} {ls : List (Option Value)} {fs : List Frame} {h : List Cell} {st : List Entry} {n : ℕ}
     (R : Running t T W id p i ops vs under ls fs h st n) where
@@ -537,6 +548,7 @@ module _ {t : List ℕ} {T W : List ℕ} {id p i : ℕ} {ops vs under : List Val
   unfolding actions effects
   ok-ret e =
       let free = locals-free e in
+      let c = R .instr .checked (R .walk) in
       rw (free .1, nothing-under e)
-      (arrive vs h st n (R .suspended) (clean R 16 e (R .instr .checked (R .walk) .none-returned e)) (R .types) (R .serial) (R .records) (R .store)
+      (arrive (R .judged) vs h st n (R .suspended) (λ m o. crosses R 16 e m (resultOf (marksIn t) p) (isPrivate t (procedureIn (indexOf t) p)) (λ y. (o y, c .returned-marked e y)) (c .none-returned e)) (R .types) (R .serial) (R .records) (R .store)
       (λ r. omega (arith, R .owned r, free .0 r, ap (inValues r) (nothing-under e))) (Did R) (same (λ q a y j x under′ r. omega (arith, e, q)) refl refl))

@@ -76,7 +76,7 @@ module _ (t : List ℕ) (J : Judged t (indexOf t)) where
   between h st v few = record { sound = sound (v .T) h (v .types) (v .records) [] st (v .store) (v .owned) few; reached = reached t J (v .T) h (v .types) (v .records) st (v .owned) }
 
   -- a running frame
-  module _ {T W : List ℕ} {id p i : ℕ} {ops : List Value} {ls : List (Option Value)} (f : FrameOk t (indexOf t) T W i [] id p ops ls) where
+  module _ {T W : List ℕ} {id p i : ℕ} {ops : List Value} {ls : List (Option Value)} (f : FrameOk t (indexOf t) T W i [] [] id p ops ls) where
     few : p < 128
     few = J .procedure p (f .there) .low
 
@@ -198,7 +198,7 @@ module _ (t : List ℕ) (J : Judged t (indexOf t)) where
   handed-moment : (s : State) (row : ℕ) (o : Outcome) → MomentOk t J s row o → (o ≡ step t (indexOf t) s) → HandedAt t J s o
   handed-moment s row o m e = rw e (handed-at t J s (m .holds) (m .within))
 
-  safe-outcome : {T W : List ℕ} {id p i : ℕ} {ops : List Value} {ls : List (Option Value)} {fs : List Frame} {h : List Cell} {st : List Entry} {n : ℕ} (f : FrameOk t (indexOf t) T W i [] id p ops ls) (row : ℕ) (o : Outcome)
+  safe-outcome : {T W : List ℕ} {id p i : ℕ} {ops : List Value} {ls : List (Option Value)} {fs : List Frame} {h : List Cell} {st : List Entry} {n : ℕ} (f : FrameOk t (indexOf t) T W i [] [] id p ops ls) (row : ℕ) (o : Outcome)
       → MomentOk t J (state (frame id p i ops ls ∷ fs) h st n) row o → Kept t (frame id p i ops ls) → Sound t (frame id p i ops ls ∷ fs) h st
       → SafeOutcome t (indexOf t) (procedureIn (indexOf t) p .code + i) id p i ops ls fs h st n o
   safe-outcome f row o m own s =

@@ -1,4 +1,4 @@
--- A frame that is entered: its parameters are full and unmarked, its other locals empty, and a walk starts.
+-- A frame that is entered: its parameters are full and marked as they start, its other locals empty, and a walk starts.
 use Prim.Native.Nat.{ℕ, zero, suc, _+_, _-_, _<_, _≤_}
 use mathlib.Core.Path.{_≡_, refl, ap, sym, _∙_}
 use mathlib.Core.List.{List, [], _∷_, _++_, map}
@@ -9,7 +9,8 @@ use native.Mathlib.Decide.{decLt}
 use lib.Dec.{ltb}
 use lib.ListN.{length, getD, length-append, length-map, getElem? as nth}
 use borrow.Author.Tests.{lt-ltb, le-ltb}
-use Rattle.laws.proofs.Lists.{is-tabulate}
+use Rattle.laws.specs.Lists.{tabulate}
+use Rattle.laws.proofs.Lists.{length-tabulate, getD-tabulate, is-tabulate}
 use Rattle.table.specs.declared.index.Index.{Index}
 use Rattle.table.specs.Index.{indexOf}
 use Rattle.declarations.specs.Program.{kindsOf, procedureIn, localCount, parametersEnd, parameterKinds, parameterCount}
@@ -30,49 +31,43 @@ pub has-length : {t : List ℕ} {ix : Index} {T W : List ℕ} {m : ℕ} {vs : Li
 has-length hnil = refl
 has-length (hcons f h) = ap suc (has-length h)
 
--- as many unmarked places as kinds
-abbrev unmarked : List ℕ → List Bool
-unmarked ks = map (λ (k : ℕ). false) ks
-
-abbrev slotsOf : List ℕ → List ℕ → List Slot
-slotsOf ks rest = map full (unmarked ks) ++ map (λ (k : ℕ). empty) rest
+abbrev slotsOf : List Bool → List ℕ → List Slot
+slotsOf bs rest = map full bs ++ map (λ (k : ℕ). empty) rest
 
 no-slot : (rest : List ℕ) (y : ℕ) → getD (map (λ (k : ℕ). empty) rest) y empty ≡ empty
 no-slot [] y = refl
 no-slot (k ∷ rest) zero = refl
 no-slot (k ∷ rest) (suc y) = no-slot rest y
 
-first-slots : (ks rest : List ℕ) (y : ℕ) → y < length ks → getD (slotsOf ks rest) y empty ≡ full false
+first-slots : (bs : List Bool) (rest : List ℕ) (y : ℕ) → y < length bs → getD (slotsOf bs rest) y empty ≡ full (getD bs y false)
 first-slots [] rest y l = absurd (omega arith)
-first-slots (k ∷ ks) rest zero l = refl
-first-slots (k ∷ ks) rest (suc y) l = first-slots ks rest y (omega arith)
+first-slots (b ∷ bs) rest zero l = refl
+first-slots (b ∷ bs) rest (suc y) l = first-slots bs rest y (omega arith)
 
-later-slots : (ks rest : List ℕ) (y : ℕ) → length ks ≤ y → getD (slotsOf ks rest) y empty ≡ empty
+later-slots : (bs : List Bool) (rest : List ℕ) (y : ℕ) → length bs ≤ y → getD (slotsOf bs rest) y empty ≡ empty
 later-slots [] rest y l = no-slot rest y
-later-slots (k ∷ ks) rest zero l = absurd (omega arith)
-later-slots (k ∷ ks) rest (suc y) l = later-slots ks rest y (omega arith)
+later-slots (b ∷ bs) rest zero l = absurd (omega arith)
+later-slots (b ∷ bs) rest (suc y) l = later-slots bs rest y (omega arith)
 
 -- so does a walk start
-entry-is : (ks rest : List ℕ) (n m : ℕ) → length ks ≡ n → m ≡ length ks + length rest → slotsOf ks rest ≡ entry (λ (l : ℕ). false) n m
+entry-is : (marked : ℕ → Bool) (rest : List ℕ) (n m : ℕ) → m ≡ n + length rest → slotsOf (tabulate marked n) rest ≡ entry marked n m
 unfolding entry
-entry-is ks rest n m e d =
-    is-tabulate _ empty m (slotsOf ks rest) (length-append (map full (unmarked ks)) (map (λ (k : ℕ). empty) rest) ∙ simp length-map (omega (arith, d)))
-    (λ y l. go y (decLt y n))
+entry-is marked rest n m e =
+    is-tabulate _ empty m (slotsOf (tabulate marked n) rest) (length-append (map full (tabulate marked n)) (map (λ (k : ℕ). empty) rest) ∙ simp (length-map, length-tabulate) (sym e)) (λ y l. go y (decLt y n))
   where
-    go : (y : ℕ) → Dec (y < n) → getD (slotsOf ks rest) y empty ≡ cond (ltb y n) (full false) empty
-    go y (yes q) = rw (lt-ltb y n q) (first-slots ks rest y (omega (arith, e)))
-    go y (no q) = rw (le-ltb y n (omega arith)) (later-slots ks rest y (omega (arith, e)))
+    go : (y : ℕ) → Dec (y < n) → getD (slotsOf (tabulate marked n) rest) y empty ≡ cond (ltb y n) (full (marked y)) empty
+    go y (yes q) = rw (lt-ltb y n q) (first-slots (tabulate marked n) rest y (rw length-tabulate q) ∙ ap full (getD-tabulate marked false n y q))
+    go y (no q) = rw (le-ltb y n (omega arith)) (later-slots (tabulate marked n) rest y (omega (arith, length-tabulate marked n)))
 
 -- frame id of procedure q, with the arguments vs
 pub entered : {t : List ℕ} {T W : List ℕ} (judged : Judged t (indexOf t)) (id q : ℕ) → q < indexOf t .procedures → nth W id ≡ some q → (vs : List Value)
-    → ((cs : List Bool) → length cs ≡ length (parameterKinds t (procedureIn (indexOf t) q)) → Has t (indexOf t) T W (moduleIn (indexOf t) q) vs (parameterKinds t (procedureIn (indexOf t) q)) cs)
-    → FrameOk t (indexOf t) T W 0 [] id q [] (startLocals vs (localCount (procedureIn (indexOf t) q) - length vs))
+    → Has t (indexOf t) T W (moduleIn (indexOf t) q) vs (parameterKinds t (procedureIn (indexOf t) q)) (tabulate (startsIn t q) (length (parameterKinds t (procedureIn (indexOf t) q))))
+    → FrameOk t (indexOf t) T W 0 [] [] id q [] (startLocals vs (localCount (procedureIn (indexOf t) q) - length vs))
 unfolding onto kindsBefore marksOn
-entered {t} {T} {W} judged id q there e vs f =
+entered {t} {T} {W} judged id q there e vs a =
     let Q = judged .procedure q there in
     let ks = parameterKinds t (procedureIn (indexOf t) q) in
     let rest = kindsOf t (parametersEnd t (procedureIn (indexOf t) q)) (procedureIn (indexOf t) q .results) in
-    let a = f (unmarked ks) (length-map ks (λ (k : ℕ). false)) in
     let count : localCount (procedureIn (indexOf t) q) ≡ length ks + length rest = sym (Q .locals) ∙ ap length (Q .split) ∙ length-append ks rest in
     let others : localCount (procedureIn (indexOf t) q) - length vs ≡ length rest = omega (arith, count, has-length a) in
     record {
@@ -81,12 +76,10 @@ entered {t} {T} {W} judged id q there e vs f =
       inside = Q .some-code;
       rest = [];
       O = [];
-      G = [];
       L = entry (startsIn t q) (parameterCount t (procedureIn (indexOf t) q)) (localCount (procedureIn (indexOf t) q));
       len = 0;
-      gaps = refl;
       kinds = refl;
       has = hnil;
-      slots = rw (others, Q .split, ← (entry-is ks rest (parameterCount t (procedureIn (indexOf t) q)) (localCount (procedureIn (indexOf t) q)) (Q .parameters) count)) (enter a rest);
+      slots = rw (others, Q .split, ← (entry-is (startsIn t q) rest (parameterCount t (procedureIn (indexOf t) q)) (localCount (procedureIn (indexOf t) q)) (omega (arith, count, Q .parameters))), ← (Q .parameters)) (enter a rest);
       walk = starts;
     }

@@ -9,6 +9,7 @@ use native.Mathlib.Omega.{arith}
 use lib.ListN.{length, set, getElem? as nth}
 use lib.Dec.{eqb}
 use borrow.Author.Tests.{eqb-true}
+use Rattle.laws.specs.Lists.{tabulate}
 use Rattle.table.specs.declared.index.Index.{Index}
 use Rattle.table.specs.Format.{opCall, maxResults}
 use Rattle.table.specs.Rows.{rowCount}
@@ -17,6 +18,8 @@ use Rattle.effects.specs.Kinds.{good}
 use Rattle.operands.specs.Operands.{kindsBefore}
 use Rattle.operands.specs.Flow.{onto}
 use Rattle.flow.specs.Walks.{Slot, pushedOn as marksOn}
+use Rattle.helpers.specs.Marks.{resultOf}
+use Rattle.helpers.specs.Tables.{marksIn}
 use Rattle.acceptance.specs.Checked.{WalkOf}
 use Rattle.acceptance.specs.Judged.{localKinds}
 use Rattle.semantics.specs.Machine.{toLocal, toField, toRecord, Value, num, obj, refer, asKind, writable, Cell, gone, here, Entry, entry, Frame, frame, content, localOf, putLocal, findKey, dropKey, aRecord, stale, inCell, inLocal, target}
@@ -29,31 +32,33 @@ use Rattle.semantics.proofs.Sorts.{record-plain, number-writable, recor
 use Rattle.semantics.proofs.Typing.{Word, Fit, fnum, fobj, floc, ffld, frec, Has, Slots, Fields, dnil, dnum, dobj, CellOk, EntryOk, _⊑_, has-more, slots-more}
 use Rattle.semantics.proofs.Places.{as-number, as-record, slot-read, slot-write, held-write}
 
--- A frame that goes on at instruction `to` when values of the kinds `gap` have been pushed: the kinds of its operands are those that the judge found
+-- A frame that goes on at instruction `to` when values of the kinds `gap`, with the marks G, have been pushed: the kinds of its operands are those that the judge found
 -- there, its locals have their kinds, and some walk arrives there with exactly its full and empty locals and its marks.
-pub record FrameOk (t : List ℕ) (ix : Index) (T W : List ℕ) (to : ℕ) (gap : List ℕ) (id p : ℕ) (ops : List Value) (ls : List (Option Value)) : Type 0 where
+pub record FrameOk (t : List ℕ) (ix : Index) (T W : List ℕ) (to : ℕ) (gap : List ℕ) (G : List Bool) (id p : ℕ) (ops : List Value) (ls : List (Option Value)) : Type 0 where
   pub named : nth W id ≡ some p
   pub there : p < ix .procedures
   pub inside : to < rowCount (codeOf t (procedureIn ix p))
   pub rest : List ℕ
   pub O : List Bool
-  pub G : List Bool
   pub L : List Slot
   pub len : ℕ
-  pub gaps : length G ≡ length gap
   pub kinds : kindsBefore t ix (procedureIn ix p) to ≡ good (onto gap rest)
   pub has : Has t ix T W (moduleIn ix p) ops rest O
   pub slots : Slots t ix T W (moduleIn ix p) ls (localKinds t (procedureIn ix p)) L
   pub walk : WalkOf t p len to L (marksOn G O)
 
+-- the marks of the results of procedure q
+abbrev pub resultMarks : List ℕ → Index → ℕ → List Bool
+resultMarks t ix q = tabulate (resultOf (marksIn t) q) (length (resultKinds t (procedureIn ix q)))
+
 -- the frames under one of procedure q: each stands at the Call of the one above
 pub data Suspended (t : List ℕ) (ix : Index) (T W : List ℕ) : ℕ → List Frame → Type 0 where
   bottom : {q : ℕ} → allNumbers (resultKinds t (procedureIn ix q)) ≡ true → length (resultKinds t (procedureIn ix q)) ≤ maxResults → Suspended t ix T W q []
   over : {q id p i : ℕ} {ops : List Value} {ls : List (Option Value)} {fs : List Frame} → instructionIn t ix p i .a ≡ opCall → instructionIn t ix p i .b ≡ q
-      → FrameOk t ix T W (i + 1) (resultKinds t (procedureIn ix q)) id p ops ls → Suspended t ix T W p fs → Suspended t ix T W q (frame id p i ops ls ∷ fs)
+      → FrameOk t ix T W (i + 1) (resultKinds t (procedureIn ix q)) (resultMarks t ix q) id p ops ls → Suspended t ix T W p fs → Suspended t ix T W q (frame id p i ops ls ∷ fs)
 
 pub data Stack (t : List ℕ) (ix : Index) (T W : List ℕ) : List Frame → Type 0 where
-  runs : {id p i : ℕ} {ops : List Value} {ls : List (Option Value)} {fs : List Frame} → FrameOk t ix T W i [] id p ops ls → Suspended t ix T W p fs → Stack t ix T W (frame id p i ops ls ∷ fs)
+  runs : {id p i : ℕ} {ops : List Value} {ls : List (Option Value)} {fs : List Frame} → FrameOk t ix T W i [] [] id p ops ls → Suspended t ix T W p fs → Stack t ix T W (frame id p i ops ls ∷ fs)
 
 abbrev pub typeOf : Cell → ℕ
 typeOf (gone y) = y
@@ -86,17 +91,15 @@ module _ {t : List ℕ} {ix : Index} {T W : List ℕ} where
   find-go false id f p p′ l k o e a c d s u = u
 
   module _ {U X : List ℕ} (g : _⊑_ T U) (w : _⊑_ W X) where
-    pub frame-more : {to : ℕ} {gap : List ℕ} {id p : ℕ} {ops : List Value} {ls : List (Option Value)} → FrameOk t ix T W to gap id p ops ls → FrameOk t ix U X to gap id p ops ls
+    pub frame-more : {to : ℕ} {gap : List ℕ} {G : List Bool} {id p : ℕ} {ops : List Value} {ls : List (Option Value)} → FrameOk t ix T W to gap G id p ops ls → FrameOk t ix U X to gap G id p ops ls
     frame-more f = record {
       named = w _ _ (f .named);
       there = f .there;
       inside = f .inside;
       rest = f .rest;
       O = f .O;
-      G = f .G;
       L = f .L;
       len = f .len;
-      gaps = f .gaps;
       kinds = f .kinds;
       has = has-more g w (f .has);
       slots = slots-more g w (f .slots);
@@ -115,18 +118,16 @@ module _ {t : List ℕ} {ix : Index} {T W : List ℕ} where
   find (runs {id} {p = p′} x s) f p l k c d = find-go (eqb id f) id f p′ p l k _ refl (x .named) c d (x .slots) (find-suspended s f p l k c d)
 
   -- a number written to a local that holds one
-  write-frame : {to : ℕ} {gap : List ℕ} {id p : ℕ} {ops : List Value} {ls : List (Option Value)} → FrameOk t ix T W to gap id p ops ls → (l x n : ℕ) → content (nth ls l) ≡ some (num x) → Word n
-      → FrameOk t ix T W to gap id p ops (set ls l (some (num n)))
+  write-frame : {to : ℕ} {gap : List ℕ} {G : List Bool} {id p : ℕ} {ops : List Value} {ls : List (Option Value)} → FrameOk t ix T W to gap G id p ops ls → (l x n : ℕ) → content (nth ls l) ≡ some (num x) → Word n
+      → FrameOk t ix T W to gap G id p ops (set ls l (some (num n)))
   write-frame f l x n e u = record {
     named = f .named;
     there = f .there;
     inside = f .inside;
     rest = f .rest;
     O = f .O;
-    G = f .G;
     L = f .L;
     len = f .len;
-    gaps = f .gaps;
     kinds = f .kinds;
     has = f .has;
     slots = slot-write (f .slots) l x n e u;
@@ -134,7 +135,7 @@ module _ {t : List ℕ} {ix : Index} {T W : List ℕ} where
   }
 
   write-suspended-go : {q id p : ℕ} (i : ℕ) {ops : List Value} {ls : List (Option Value)} {fs : List Frame} (b : Bool) (f l x n : ℕ) → instructionIn t ix p i .a ≡ opCall → instructionIn t ix p i .b ≡ q
-      → FrameOk t ix T W (i + 1) (resultKinds t (procedureIn ix q)) id p ops ls → Suspended t ix T W p fs
+      → FrameOk t ix T W (i + 1) (resultKinds t (procedureIn ix q)) (resultMarks t ix q) id p ops ls → Suspended t ix T W p fs
       → cond b (content (nth ls l)) (localOf fs f l) ≡ some (num x) → Word n → (localOf fs f l ≡ some (num x) → Suspended t ix T W p (putLocal fs f l (num n)))
       → Suspended t ix T W q (cond b (frame id p i ops (set ls l (some (num n))) ∷ fs) (frame id p i ops ls ∷ putLocal fs f l (num n)))
   write-suspended-go i true f l x n c d k s e u ih = over c d (write-frame k l x n e u) s
@@ -144,7 +145,7 @@ module _ {t : List ℕ} {ix : Index} {T W : List ℕ} where
   write-suspended (bottom z few) f l x n e u = bottom z few
   write-suspended (over {id} {i} c d k s) f l x n e u = write-suspended-go i (eqb id f) f l x n c d k s e u (λ q. write-suspended s f l x n q u)
 
-  write-go : {id p i : ℕ} {ops : List Value} {ls : List (Option Value)} {fs : List Frame} (b : Bool) (f l x n : ℕ) → FrameOk t ix T W i [] id p ops ls → Suspended t ix T W p fs
+  write-go : {id p i : ℕ} {ops : List Value} {ls : List (Option Value)} {fs : List Frame} (b : Bool) (f l x n : ℕ) → FrameOk t ix T W i [] [] id p ops ls → Suspended t ix T W p fs
       → cond b (content (nth ls l)) (localOf fs f l) ≡ some (num x) → Word n
       → Stack t ix T W (cond b (frame id p i ops (set ls l (some (num n))) ∷ fs) (frame id p i ops ls ∷ putLocal fs f l (num n)))
   write-go true f l x n k s e u = runs (write-frame k l x n e u) s

@@ -53,12 +53,12 @@ module _ {t : List ℕ} {ix : Index} {T W : List ℕ} {m : ℕ} where
   guarded-fit id y j (frec a q) e g = absurd (clash (cc))
 
 module _ {t : List ℕ} {T W : List ℕ} (judged : Judged t (indexOf t)) (accepted : AcceptedTable t) where
-  module _ {to : ℕ} {gap : List ℕ} {id p : ℕ} {ops : List Value} {ls : List (Option Value)} (f : FrameOk t (indexOf t) T W to gap id p ops ls) where
+  module _ {to : ℕ} {gap : List ℕ} {G : List Bool} {id p : ℕ} {ops : List Value} {ls : List (Option Value)} (f : FrameOk t (indexOf t) T W to gap G id p ops ls) where
     -- in a guest no place is marked
     clean-guest : inTrusted t (indexOf t) (procedureIn (indexOf t) p) ≡ false → ((l : ℕ) → markOf (getD (f .L) l empty) ≡ false) × ((j : ℕ) → getD (f .O) j false ≡ false)
     clean-guest e =
         let c = judged .instruction p to (f .there) (f .inside) .checked (f .walk) .guest-clean e in
-        (c .0, λ j. sym (under-marks (f .G) (f .O) j) ∙ c .1 (length (f .G) + j))
+        (c .0, λ j. sym (under-marks G (f .O) j) ∙ c .1 (length G + j))
 
     -- at a marked place the module is trusted
     trusted : (b : Bool) → b ≡ true → (inTrusted t (indexOf t) (procedureIn (indexOf t) p) ≡ false → b ≡ false) → guestIn t (indexOf t) p ≡ false

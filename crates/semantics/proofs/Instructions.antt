@@ -8,15 +8,17 @@ use lib.ListN.{length, getD, set}
 use Rattle.laws.specs.Lists.{tabulate}
 use Rattle.table.specs.declared.index.Index.{Index}
 use Rattle.table.specs.declared.index.ProcedureEntry.{ProcedureEntry}
-use Rattle.table.specs.Format.{opMvLoc, opCpLoc, opStLoc, opBorrowFld}
+use Rattle.table.specs.Format.{opMvLoc, opCpLoc, opStLoc, opBorrowFld, opCall}
 use Rattle.table.specs.Rows.{rowAt}
-use Rattle.declarations.specs.Program.{typeIn, procedureIn, codeOf}
+use Rattle.declarations.specs.Program.{typeIn, procedureIn, resultKinds, codeOf}
 use Rattle.effects.specs.Effects.{effects, noEffect, effectOf}
 use Rattle.operands.specs.Operands.{namedType}
 use Rattle.operands.specs.Flow.{effectIn}
 use Rattle.flow.specs.Walks.{Slot, empty, full, markOf, topMark, localsAfter, pushes}
 use Rattle.steps.specs.Steps.{stepOf, stepAt}
-use Rattle.leaks.specs.Leaks.{borrowsGuarded, guardedMarks}
+use Rattle.helpers.specs.Marks.{resultOf}
+use Rattle.helpers.specs.Tables.{borrowsGuarded, marksIn}
+use Rattle.leaks.specs.Leaks.{guardedMarks}
 use Rattle.acceptance.proofs.Regular.{guarded-plain, regular, step-gives}
 use Rattle.acceptance.proofs.Depth.{length-pushes}
 use Rattle.semantics.proofs.Indexed.{guardedIn}
@@ -57,6 +59,12 @@ module _ (t : List ℕ) (ix : Index) (own : ProcedureEntry) (i : ℕ) where
         → pushes (stepAt t ix (guardedMarks t) own i) L O ≡ guardedIn t ix (rowAt (codeOf t own) i .b / 8) (rowAt (codeOf t own) i .b % 8) ∷ []
     unfolding stepAt stepOf pushes effectOf effects tabulate borrowsGuarded namedType guardedIn
     pushes-field e = rw e refl
+
+    -- Call pushes marks as those of the results of the procedure that it names
+    pub pushes-called : rowAt (codeOf t own) i .a ≡ opCall
+        → pushes (stepAt t ix (guardedMarks t) own i) L O ≡ tabulate (resultOf (marksIn t) (rowAt (codeOf t own) i .b)) (length (resultKinds t (procedureIn ix (rowAt (codeOf t own) i .b))))
+    unfolding stepAt stepOf pushes effectOf effects
+    pushes-called e = rw e refl
 
     -- as many marks are pushed as values
     pub pushes-length : (top : ℕ) → length (pushes (stepAt t ix (guardedMarks t) own i) L O) ≡ length (effectIn t ix own top i .gives)

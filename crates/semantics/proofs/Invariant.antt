@@ -7,6 +7,7 @@ use mathlib.Core.Logic.{_⊎_, inl, inr, ⊎-elim}
 use native.Mathlib.Omega.{arith}
 use borrow.Author.Tests.{eqb-true}
 use lib.ListN.{length, drop, replicate, length-append, length-replicate, length-map, length-drop}
+use Rattle.laws.proofs.Lists.{length-tabulate}
 use Rattle.table.specs.declared.index.Index.{Index}
 use Rattle.table.specs.Index.{indexOf}
 use Rattle.table.specs.Rows.{rowAt}
@@ -211,7 +212,7 @@ module _ (t : List ℕ) (J : Judged t (indexOf t)) where
   pub begin-ok : (q budget : ℕ) (args : List ℕ) (h : List Cell) (st : List Entry) (n : ℕ) → Callable t (indexOf t) q budget args → Rest t h st → StateOk t (begin t (indexOf t) q args (base h st n))
   begin-ok q budget args h st n c v =
       let f = entered {T = v .T} {W = replicate n 0 ++ (q ∷ [])} J n q (c .there) (rw (length-replicate {A = ℕ} n 0) at (snoc-last (replicate n 0) q)) (map num args)
-      (λ cs l. numbers-fit (parameterKinds t (procedureIn (indexOf t) q)) args cs (c .takes) (c .count) l (c .words)) in
+      (numbers-fit (parameterKinds t (procedureIn (indexOf t) q)) args _ (c .takes) (c .count) (length-tabulate _ _) (c .words)) in
       let same-length : length (map num args) ≡ length args = length-map args num in
       record {
         T = v .T;

@@ -91,7 +91,7 @@ module _ (t : List ℕ) (J : Judged t (indexOf t)) (a : AcceptedTable t) (T W : 
     labelled (ffld {id} {y} {j} e d g q) c = (existed id y e, field-is y j d)
     labelled (frec {id} {y} e q) c = existed id y e
 
-    frame-typed : {to : ℕ} {gap : List ℕ} {id p : ℕ} {ops : List Value} {ls : List (Option Value)} → FrameOk t (indexOf t) T W to gap id p ops ls → (i : ℕ) → Mem (frame id p i ops ls) fs → Typed t fs h n (frame id p i ops ls)
+    frame-typed : {to : ℕ} {gap : List ℕ} {G : List Bool} {id p : ℕ} {ops : List Value} {ls : List (Option Value)} → FrameOk t (indexOf t) T W to gap G id p ops ls → (i : ℕ) → Mem (frame id p i ops ls) fs → Typed t fs h n (frame id p i ops ls)
     frame-typed {id} {p} {ops} {ls} f i m = typed (λ v k. says v k) (λ l v e. let z = slot-place (f .slots) l e in let d = local-is p l (z .0) (f .there) (z .1) in (d .0, fit-kind (z .2) ∙ sym (d .1)))
       where
         says : (v : Value) → Holds (frame id p i ops ls) v → Labelled t fs h n v

@@ -13,8 +13,8 @@ use Rattle.table.specs.Rows.{rowCount, rowAt, kindAt, isKind}
 use Rattle.table.specs.Index.{indexOf, ownerAt, procedureAt, codeStart, codeEnd}
 use Rattle.table.proofs.Laws.{not-kind, procedure-code}
 use Rattle.declarations.specs.Program.{codeOf, instructionIn}
+use Rattle.sizes.proofs.Rows.{own, rowOf, entry-is, row-kind, row-kinds, parts, code-count, code-row, count-stretch}
 use Rattle.judging.specs.Judging.{AcceptedTable}
-use Rattle.acceptance.proofs.Rows.{own, rowOf, entry-is, row-kind, row-kinds, parts, code-count, code-row, count-stretch}
 use Rattle.acceptance.proofs.Guest.{moduleRow}
 use Rattle.semantics.specs.Words.{moduleOf, inGuest, guest, bodyOf, instructionRow}
 use Rattle.semantics.proofs.Worded.{procedure-is, module-is, procedure-below, guest-row}

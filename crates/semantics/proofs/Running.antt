@@ -14,7 +14,7 @@ use Rattle.operands.specs.Flow.{onto, effectIn}
 use Rattle.flow.specs.Steps.{nexts}
 use Rattle.flow.specs.Walks.{Slot, pushes, localsAfter, marksAfter, goesOn, pushedOn as marksOn}
 use Rattle.leaks.specs.Leaks.{guardedMarks}
-use Rattle.acceptance.specs.Checked.{stepIn, WalkOf, Unmarked}
+use Rattle.acceptance.specs.Checked.{stepIn, WalkOf}
 use Rattle.acceptance.proofs.Regular.{step-takes}
 use Rattle.acceptance.specs.Judged.{localKinds, Instruction, Judged}
 use Rattle.semantics.specs.Machine.{toLocal, toField, toRecord, Value, num, obj, refer, Cell, Entry, Frame, frame, state, Outcome, next, finished, stopped, stuck, target}
@@ -23,7 +23,7 @@ use Rattle.semantics.specs.Ownership.{inValues, inLocals, inFrames, inRe
 use Rattle.semantics.proofs.Indexed.{moduleIn, declarerIn}
 use Rattle.semantics.specs.Claim.{All, Owned, IsNumber}
 use Rattle.semantics.proofs.Changes.{Change, same}
-use Rattle.semantics.proofs.Typing.{Fit, Has, hnil, hcons, has-push, has-more, slots-more, _⊑_, Slots, CellOk, EntryOk}
+use Rattle.semantics.proofs.Typing.{Fit, Has, hnil, hcons, has-push, has-more, slots-more, _⊑_, MayGo, Slots, CellOk, EntryOk}
 use Rattle.semantics.proofs.Frames.{FrameOk, Suspended, Stack, runs, typeOf, Inv}
 
 -- what lies between calls
@@ -64,7 +64,7 @@ pub record Running (t : List ℕ) (T W : List ℕ) (id p i : ℕ) (ops vs under 
   pub left : Has t (indexOf t) T W (moduleIn (indexOf t) p) under (instr .flow .rest) (drop (length (effectIn t (indexOf t) (procedureIn (indexOf t) p) (instr .flow .top) i .takes)) O)
   pub marks : O ≡ marksOn bs (drop (length (effectIn t (indexOf t) (procedureIn (indexOf t) p) (instr .flow .top) i .takes)) O)
   pub out : (m : ℕ) (cs : List Bool) → length cs ≡ length (effectIn t (indexOf t) (procedureIn (indexOf t) p) (instr .flow .top) i .takes)
-      → Unmarked (effectIn t (indexOf t) (procedureIn (indexOf t) p) (instr .flow .top) i .takes) O → Has t (indexOf t) T W m vs (effectIn t (indexOf t) (procedureIn (indexOf t) p) (instr .flow .top) i .takes) cs
+      → MayGo (moduleIn (indexOf t) p) m (effectIn t (indexOf t) (procedureIn (indexOf t) p) (instr .flow .top) i .takes) O cs → Has t (indexOf t) T W m vs (effectIn t (indexOf t) (procedureIn (indexOf t) p) (instr .flow .top) i .takes) cs
   pub owned : (r : ℕ) → inValues r vs + inValues r under + inLocals r ls + inFrames r fs + inRecords r h + inStore r st ≡ livesAt h r
 
 -- what one or two operands taken are
@@ -116,7 +116,7 @@ module _ {t : List ℕ} {T W : List ℕ} {id p i : ℕ} {ops vs under : List Val
   -- the frame goes on at instruction j with the values ws pushed, where there may be more records and frames
   module _ {U X : List ℕ} (more : _⊑_ T U) (later : _⊑_ W X) where
     pub stands : (j : ℕ) → Mem j (nexts (codeOf t (procedureIn (indexOf t) p)) i) → {ws : List Value} {ls′ : List (Option Value)} → Has t (indexOf t) U X (moduleIn (indexOf t) p) ws given pushedMarks
-        → Slots t (indexOf t) U X (moduleIn (indexOf t) p) ls′ (localKinds t (procedureIn (indexOf t) p)) localsThen → FrameOk t (indexOf t) U X j [] id p (pushedOn ws under) ls′
+        → Slots t (indexOf t) U X (moduleIn (indexOf t) p) ls′ (localKinds t (procedureIn (indexOf t) p)) localsThen → FrameOk t (indexOf t) U X j [] [] id p (pushedOn ws under) ls′
     unfolding onto marksOn marksAfter
     stands j m a s = record {
       named = later _ _ (R .named);
@@ -124,10 +124,8 @@ module _ {t : List ℕ} {T W : List ℕ} {id p i : ℕ} {ops vs under : List Val
       inside = R .instr .inside j m;
       rest = onto given (R .instr .flow .rest);
       O = marksOn pushedMarks (drop (stepIn t p i .takes) (R .O));
-      G = [];
       L = localsThen;
       len = suc (R .len);
-      gaps = refl;
       kinds = R .instr .follow j m;
       has = has-push a (has-more more later (rw (← (step-takes t (indexOf t) (guardedMarks t) (procedureIn (indexOf t) p) (R .instr .flow .top) i)) at (R .left)));
       slots = s;
@@ -135,19 +133,17 @@ module _ {t : List ℕ} {T W : List ℕ} {id p i : ℕ} {ops vs under : List Val
     }
 
     -- at a Call it waits for the results, before the next instruction
-    pub waits : Mem (i + 1) (nexts (codeOf t (procedureIn (indexOf t) p)) i) → length pushedMarks ≡ length given
-        → Slots t (indexOf t) T W (moduleIn (indexOf t) p) ls (localKinds t (procedureIn (indexOf t) p)) localsThen → FrameOk t (indexOf t) U X (i + 1) given id p under ls
+    pub waits : Mem (i + 1) (nexts (codeOf t (procedureIn (indexOf t) p)) i)
+        → Slots t (indexOf t) T W (moduleIn (indexOf t) p) ls (localKinds t (procedureIn (indexOf t) p)) localsThen → FrameOk t (indexOf t) U X (i + 1) given pushedMarks id p under ls
     unfolding marksAfter
-    waits m l s = record {
+    waits m s = record {
       named = later _ _ (R .named);
       there = R .there;
       inside = R .instr .inside (i + 1) m;
       rest = R .instr .flow .rest;
       O = drop (stepIn t p i .takes) (R .O);
-      G = pushedMarks;
       L = localsThen;
       len = suc (R .len);
-      gaps = l;
       kinds = R .instr .follow (i + 1) m;
       has = has-more more later (rw (← (step-takes t (indexOf t) (guardedMarks t) (procedureIn (indexOf t) p) (R .instr .flow .top) i)) at (R .left));
       slots = slots-more more later s;
@@ -155,7 +151,7 @@ module _ {t : List ℕ} {T W : List ℕ} {id p i : ℕ} {ops vs under : List Val
     }
 
   pub goes-on : (j : ℕ) → Mem j (nexts (codeOf t (procedureIn (indexOf t) p)) i) → {ws : List Value} {ls′ : List (Option Value)} → Has t (indexOf t) T W (moduleIn (indexOf t) p) ws given pushedMarks
-      → Slots t (indexOf t) T W (moduleIn (indexOf t) p) ls′ (localKinds t (procedureIn (indexOf t) p)) localsThen → FrameOk t (indexOf t) T W j [] id p (pushedOn ws under) ls′
+      → Slots t (indexOf t) T W (moduleIn (indexOf t) p) ls′ (localKinds t (procedureIn (indexOf t) p)) localsThen → FrameOk t (indexOf t) T W j [] [] id p (pushedOn ws under) ls′
   goes-on j m a s = stands (λ i y e. e) (λ i y e. e) j m a s
 
   -- with other records and another store

@@ -6,7 +6,6 @@ use mathlib.Core.Bool.{Bool, true}
 use mathlib.Core.Option.{Option}
 use mathlib.Core.Logic.{_⊎_, inl, inr}
 use native.Mathlib.Omega.{arith}
-use lib.ListN.{length}
 use Rattle.table.specs.Format.{pastOpcodes, opWriteRef, opOp, opFreeze}
 use Rattle.laws.proofs.Cases.{_▸_, below-each}
 use Rattle.table.specs.Index.{indexOf}
@@ -40,11 +39,6 @@ by-opcode R =
     (ok-pop R ▸ ok-load R ▸ ok-mv R ▸ ok-cp R ▸ ok-st R ▸ ok-borrow R ▸ ok-read R ▸ ok-write R ▸ ok-field R ▸ ok-pack R ▸ ok-unpack R
     ▸ ok-to R ▸ ok-from R ▸ ok-global R ▸ ok-exists R ▸ ok-call R ▸ ok-ret R ▸ ok-branch R ▸ ok-cond R ▸ ok-op R ▸ ok-freeze R ▸ tt)
 
-no-gap : (G O : List Bool) → length G ≡ 0 → marksOn G O ≡ O
-unfolding marksOn
-no-gap [] O e = refl
-no-gap (b ∷ G) O e = absurd (omega arith)
-
 good-same : {xs ys : List ℕ} → good xs ≡ good ys → xs ≡ ys
 good-same e = cc
 
@@ -65,7 +59,7 @@ DidAt t (state (frame id p i ops ls ∷ fs) h st n) h′ st′ =
 
 module _ (t : List ℕ) (judged : Judged t (indexOf t)) where
   -- a running frame and the operands that its instruction takes
-  module _ {T W : List ℕ} {id p i : ℕ} {ops : List Value} {ls : List (Option Value)} (f : FrameOk t (indexOf t) T W i [] id p ops ls) where
+  module _ {T W : List ℕ} {id p i : ℕ} {ops : List Value} {ls : List (Option Value)} (f : FrameOk t (indexOf t) T W i [] [] id p ops ls) where
     instr : Instruction t (indexOf t) p i
     instr = judged .instruction p i (f .there) (f .inside)
 
@@ -123,8 +117,9 @@ module _ (t : List ℕ) (judged : Judged t (indexOf t)) where
     kinds-found = f .kinds ∙ ap good (sym (has-kinds (f .has)))
 
   running : {fs : List Frame} {h : List Cell} {st : List Entry} {n : ℕ} (v : Inv t (indexOf t) fs h st n) {id p i : ℕ} {ops : List Value} {ls : List (Option Value)} {gs : List Frame}
-      (f : FrameOk t (indexOf t) (v .T) (v .W) i [] id p ops ls) → Suspended t (indexOf t) (v .T) (v .W) p gs → Owned (frame id p i ops ls ∷ gs) h st
+      (f : FrameOk t (indexOf t) (v .T) (v .W) i [] [] id p ops ls) → Suspended t (indexOf t) (v .T) (v .W) p gs → Owned (frame id p i ops ls ∷ gs) h st
       → Running t (v .T) (v .W) id p i ops (takes-off f .vs) (takes-off f .under) ls gs h st n
+  unfolding marksOn
   running v f s o = record {
     judged = judged;
     instr = instr f;
@@ -134,7 +129,7 @@ module _ (t : List ℕ) (judged : Judged t (indexOf t)) where
     O = f .O;
     len = f .len;
     slots = f .slots;
-    walk = rw (no-gap (f .G) (f .O) (f .gaps)) at (f .walk);
+    walk = f .walk;
     suspended = s;
     types = v .types;
     serial = v .serial;
@@ -165,7 +160,7 @@ module _ (t : List ℕ) (judged : Judged t (indexOf t)) where
   pub runs-on : (s : State) → StateOk t s → step t (indexOf t) s ≡ stuck → ⊥
   runs-on s v = not-stuck (DidAt t s) (step t (indexOf t) s) (step-ok s v)
 
-  pub takes-there : {T W : List ℕ} {id p i : ℕ} {ops : List Value} {ls : List (Option Value)} → FrameOk t (indexOf t) T W i [] id p ops ls
+  pub takes-there : {T W : List ℕ} {id p i : ℕ} {ops : List Value} {ls : List (Option Value)} → FrameOk t (indexOf t) T W i [] [] id p ops ls
       → (effectAt t (indexOf t) p i ops .fit ≡ true) × ((vs under : List Value) × (taken (effectAt t (indexOf t) p i ops .takes) ops ≡ took vs under))
   takes-there {ops} f =
       (ap (λ (x : Effect). x .fit) (effect-found f) ∙ instr f .flow .fit, (takes-off f .vs, takes-off f .under, ap (λ (x : Effect). taken (x .takes) ops) (effect-found f) ∙ takes-off f .found))

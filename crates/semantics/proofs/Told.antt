@@ -10,11 +10,11 @@ use Rattle.laws.specs.Sorting.{sortBy}
 use Rattle.table.specs.declared.Verdict.the-variants.{Accepted}
 use Rattle.table.specs.Format.{maxTypes, maxRows}
 use Rattle.table.specs.Index.{indexOf}
+use Rattle.sizes.proofs.Rows.{parts, code-place}
 use Rattle.judging.specs.Judging.{judgeOf}
 use Rattle.reach.specs.Reach.{Mem}
 use Rattle.acceptance.specs.Judged.{Bytes, Judged}
 use Rattle.acceptance.proofs.Judged.{judged}
-use Rattle.acceptance.proofs.Rows.{parts, code-place}
 use Rattle.arithmetic.specs.Arithmetic.{pastNumbers}
 use Rattle.semantics.specs.Machine.{Value, num, obj, refer, Cell, here, Entry, entry, Frame, State, state, Outcome, next, finished, stopped, stuck}
 use Rattle.semantics.specs.Calls.{listOf, callsOf}

@@ -5,13 +5,15 @@ use mathlib.Core.List.{List, [], _∷_, _++_, map}
 use mathlib.Core.Bool.{Bool, true, false, true≢false}
 use mathlib.Core.Option.{Option, none, some}
 use native.Mathlib.Omega.{arith}
-use lib.ListN.{length, getD, drop, getElem? as nth}
+use lib.ListN.{length, getD, drop, length-append, getElem? as nth}
 use borrow.Author.Tests.{eq-eqb}
+use Rattle.laws.specs.Lists.{tabulate}
+use Rattle.laws.proofs.Lists.{getD-tabulate}
 use Rattle.table.specs.declared.index.Index.{Index}
 use Rattle.declarations.specs.Program.{number, recordOf, numberRef, recordRef, referenceTo, isRecord, isReference, procedureIn, typeIn, fieldKinds}
 use Rattle.operands.specs.Flow.{onto}
 use Rattle.flow.specs.Walks.{Slot, empty, full, pushedOn as marksOn}
-use Rattle.acceptance.specs.Checked.{Unmarked}
+use Rattle.acceptance.specs.Checked.{Unmarked, MarkedAs}
 use Rattle.acceptance.specs.Judged.{localKinds}
 use Rattle.arithmetic.specs.Arithmetic.{pastNumbers}
 use Rattle.semantics.specs.Machine.{toLocal, toField, toRecord, Value, num, obj, refer, asKind, valueKind, Cell, gone, here, Entry, entry}
@@ -89,13 +91,13 @@ module _ {t : List ℕ} {ix : Index} {T W : List ℕ} where
     slots-more (sempty h) = sempty (slots-more h)
     slots-more (sfull f h) = sfull (fit-more f) (slots-more h)
 
-  -- a value that is no writable reference to a number, or stands at an unmarked place, fits at any place, in any module
-  pub unmark : {m m′ : ℕ} {v : Value} {k : ℕ} {b : Bool} (b′ : Bool) → (k ≡ numberRef → b ≡ false) → Fit t ix T W m v k b → Fit t ix T W m′ v k b′
-  unmark b′ z (fnum y q) = fnum y q
-  unmark b′ z (fobj e q) = fobj e q
-  unmark b′ z (floc e d c q) = floc e d c q
-  unmark b′ z (ffld e d c q) = ffld e d (λ v y. absurd (true≢false (sym (c v y .0) ∙ z (q ∙ ap (λ (w : Bool). asKind w numberRef) v)))) q
-  unmark b′ z (frec e q) = frec e q
+  -- a value fits at another place, in another module; a writable reference to a number that stands at a marked place fits only at a marked place of its own module
+  pub fit-other : {m m′ : ℕ} {v : Value} {k : ℕ} {b : Bool} (b′ : Bool) → (k ≡ numberRef → b ≡ true → (b′ ≡ true) × (m ≡ m′)) → Fit t ix T W m v k b → Fit t ix T W m′ v k b′
+  fit-other b′ z (fnum y q) = fnum y q
+  fit-other b′ z (fobj e q) = fobj e q
+  fit-other b′ z (floc e d c q) = floc e d c q
+  fit-other b′ z (ffld e d c q) = ffld e d (λ v y. let r = c v y in let o = z (q ∙ ap (λ (w : Bool). asKind w numberRef) v) (r .0) in (o .0, r .1 ∙ o .1)) q
+  fit-other b′ z (frec e q) = frec e q
 
   pub has-push : {m : ℕ} {vs ops : List Value} {ks rest : List ℕ} {bs O : List Bool} → Has t ix T W m vs ks bs → Has t ix T W m ops rest O
       → Has t ix T W m (pushedOn vs ops) (onto ks rest) (marksOn bs O)
@@ -138,6 +140,17 @@ pub entries-more : (T U : List ℕ) → _⊑_ T U → {st : List Entry} → All 
 entries-more T U g none-left = none-left
 entries-more T U g (also {x} k h) = also (entry-more T U g x k) (entries-more T U g h)
 
+-- Operands of these kinds with marks, the last on top, may go from a frame of module m to places of module m′ whose marks are bs, the first of the first:
+-- a writable reference to a number that is marked goes to a marked place of the same module
+abbrev pub MayGo : ℕ → ℕ → List ℕ → List Bool → List Bool → Type 0
+MayGo m m′ ks O bs = (before after : List ℕ) → ks ≡ before ++ (numberRef ∷ after) → getD O (length after) false ≡ true → (getD bs (length before) false ≡ true) × (m ≡ m′)
+
+-- they may, within a module to places that are marked where they are, and to any where they are not marked
+pub may-go : (m m′ : ℕ) (ks : List ℕ) (O : List Bool) (marked : ℕ → Bool) (inner : Bool) → (inner ≡ true → (m ≡ m′) × MarkedAs ks O marked) → (inner ≡ false → Unmarked ks O) → MayGo m m′ ks O (tabulate marked (length ks))
+may-go m m′ ks O marked true f g before after e d =
+    let z = f refl in (getD-tabulate marked false (length ks) (length before) (omega (arith, ap length e ∙ length-append before (numberRef ∷ after))) ∙ z .1 before after numberRef e d, z .0)
+may-go m m′ ks O marked false f g before after e d = absurd (true≢false (sym d ∙ g refl before after e))
+
 -- the operands that an instruction takes are there
 pub record Took (t : List ℕ) (ix : Index) (T W : List ℕ) (m : ℕ) (ops : List Value) (ks rest : List ℕ) (O : List Bool) : Type 0 where
   pub vs : List Value
@@ -148,7 +161,7 @@ pub record Took (t : List ℕ) (ix : Index) (T W : List ℕ) (m : ℕ) (ops : Li
   pub marks : O ≡ marksOn bs (drop (length ks) O)
   pub has : Has t ix T W m vs ks bs
   pub left : Has t ix T W m under rest (drop (length ks) O)
-  pub out : (m′ : ℕ) (bs′ : List Bool) → length bs′ ≡ length ks → Unmarked ks O → Has t ix T W m′ vs ks bs′
+  pub out : (m′ : ℕ) (bs′ : List Bool) → length bs′ ≡ length ks → MayGo m m′ ks O bs′ → Has t ix T W m′ vs ks bs′
 
 drop-suc : (l : List Bool) (n : ℕ) (b : Bool) (r : List Bool) → drop n l ≡ b ∷ r → drop (suc n) l ≡ r
 drop-suc [] zero b r e = cc
@@ -163,13 +176,14 @@ drop-get (x ∷ l) zero b r e = cc
 drop-get (x ∷ l) (suc n) b r e = drop-get l n b r e
 
 module _ {t : List ℕ} {ix : Index} {T W : List ℕ} {m : ℕ} where
-  also-out : {v : Value} {k : ℕ} {b : Bool} {vs : List Value} {ks : List ℕ} (m′ : ℕ) (bs′ : List Bool) → (k ≡ numberRef → b ≡ false) → Fit t ix T W m v k b → length bs′ ≡ suc (length ks)
-      → ((cs : List Bool) → length cs ≡ length ks → Has t ix T W m′ vs ks cs) → Has t ix T W m′ (v ∷ vs) (k ∷ ks) bs′
-  also-out m′ [] z f e o = absurd (omega arith)
-  also-out m′ (c ∷ cs) z f e o = hcons (unmark c z f) (o cs (omega arith))
+  also-out : {v : Value} {k : ℕ} {b : Bool} {vs : List Value} {ks : List ℕ} (O : List Bool) (m′ : ℕ) (bs′ : List Bool) → getD O (length ks) false ≡ b → Fit t ix T W m v k b → length bs′ ≡ suc (length ks) → MayGo m m′ (k ∷ ks) O bs′
+      → ((cs : List Bool) → length cs ≡ length ks → MayGo m m′ ks O cs → Has t ix T W m′ vs ks cs) → Has t ix T W m′ (v ∷ vs) (k ∷ ks) bs′
+  also-out O m′ [] d f e g o = absurd (omega arith)
+  also-out {k} {ks} O m′ (c ∷ cs) d f e g o =
+      hcons (fit-other c (λ q z. g [] ks (ap (λ (x : ℕ). x ∷ ks) q) (d ∙ z)) f) (o cs (omega arith) (λ before after z. g (k ∷ before) after (ap (λ (l : List ℕ). k ∷ l) z)))
 
   took-more : {ops : List Value} {k : ℕ} {ks rest : List ℕ} {O : List Bool} (vs under : List Value) (bs D : List Bool) → taken ks ops ≡ took vs under → ops ≡ pushedOn vs under → O ≡ marksOn bs (drop (length ks) O)
-      → Has t ix T W m vs ks bs → ((m′ : ℕ) (bs′ : List Bool) → length bs′ ≡ length ks → Unmarked ks O → Has t ix T W m′ vs ks bs′) → drop (length ks) O ≡ D → Has t ix T W m under (k ∷ rest) D
+      → Has t ix T W m vs ks bs → ((m′ : ℕ) (bs′ : List Bool) → length bs′ ≡ length ks → MayGo m m′ ks O bs′ → Has t ix T W m′ vs ks bs′) → drop (length ks) O ≡ D → Has t ix T W m under (k ∷ rest) D
       → Took t ix T W m ops (k ∷ ks) rest O
   unfolding marksOn
   took-more {ops} {k} {ks} {rest} {O} vs under bs D e s w h o d (hcons {v} {b} {vs = us} {bs = B} f g) = record {
@@ -181,7 +195,7 @@ module _ {t : List ℕ} {ix : Index} {T W : List ℕ} {m : ℕ} where
     marks = w ∙ ap (marksOn bs) (d ∙ ap (λ (l : List Bool). b ∷ l) (sym (drop-suc O (length ks) b B d)));
     has = hcons f h;
     left = rw (drop-suc O (length ks) b B d) g;
-    out = λ m′ bs′ l c. also-out m′ bs′ (λ e. sym (drop-get O (length ks) b B d) ∙ c [] ks (ap (λ (x : ℕ). x ∷ ks) e)) f l (λ cs q. o m′ cs q (λ before after z. c (k ∷ before) after (ap (λ (l : List ℕ). k ∷ l) z)));
+    out = λ m′ bs′ l g. also-out O m′ bs′ (drop-get O (length ks) b B d) f l g (o m′);
   }
 
   pub take-off : (ks : List ℕ) {ops : List Value} {rest : List ℕ} {O : List Bool} → Has t ix T W m ops (onto ks rest) O → Took t ix T W m ops ks rest O

@@ -24,11 +24,11 @@ use Rattle.declarations.specs.Program.{typeIn, procedureIn, fieldRow}
 use Rattle.declarations.proofs.Laws.{nth-below, procedure-there}
 use Rattle.rows.proofs.Faults.{faultless}
 use Rattle.rows.specs.Rows.{faultAt, misplaced, mayFollow, aboveAt}
+use Rattle.sizes.proofs.Sizes.{rows-fine, nth-hit}
 use Rattle.leaks.specs.Leaks.{inTrusted}
 use Rattle.judging.specs.Judging.{judgeOf, AcceptedTable}
 use Rattle.judging.proofs.Accepts.{accepting}
 use Rattle.judging.proofs.Values.{value-small}
-use Rattle.judging.proofs.Sizes.{rows-fine, nth-hit}
 use Rattle.acceptance.proofs.Guest.{moduleRow, module-here}
 use Rattle.acceptance.proofs.Counts.{row-trust, type-few}
 use Rattle.semantics.specs.Words.{typeCount, procedureCount, typeRow, moduleOf, declarer, moduleAbove, inGuest, guest, guardedField}

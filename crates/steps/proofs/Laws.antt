@@ -1,11 +1,10 @@
 -- Laws of what instructions take and push, and of the marks that they make.
-use Prim.Native.Nat.{ℕ, zero, suc, _+_, _-_, _<_, _≤_}
+use Prim.Native.Nat.{ℕ, zero, suc, _+_, _-_, _≤_}
 use mathlib.Core.Path.{_≡_, refl, ap}
-use mathlib.Core.Bool.{Bool, not}
+use mathlib.Core.Bool.{not}
 use mathlib.Core.List.{List}
 use native.Mathlib.Omega.{arith}
 use lib.ListN.{length, getD, List·getD-eq-default}
-use Rattle.laws.specs.Lists.{tabulate}
 use Rattle.laws.proofs.Lists.{find-within, getD-tabulate}
 use Rattle.table.specs.declared.Row.{Row}
 use Rattle.table.specs.declared.index.Index.{Index}
@@ -18,8 +17,7 @@ use Rattle.effects.specs.Effects.{effects, effectOf, noEffect}
 use Rattle.flow.specs.Steps.{nexts}
 use Rattle.flow.specs.Places.{markNodes}
 use Rattle.flow.proofs.Same.{marks-same}
-use Rattle.steps.specs.Steps.{Marking, stepOf, stepAt, noStep, stepsAt, marksOf}
-use Rattle.steps.specs.Shapes.{viewStep, Makes}
+use Rattle.steps.specs.Steps.{Marking, stepAt, noStep, stepsAt, marksOf}
 
 -- rows declare as many kinds as there are rows
 length-from : (t : List ℕ) (i n : ℕ) → length (kindsFrom t i n) ≡ n
@@ -51,22 +49,6 @@ module _ (t : List ℕ) (own : ProcedureEntry) (named : TypeEntry) (callee : Pro
   pub unlisted : pastOpcodes ≤ row .a → Counted 0 0
   unfolding effectOf effects
   unlisted h = rw (List·getD-eq-default (effects t own named callee (row .b) number) noEffect {n = row .a} h) (refl, refl)
-
--- lists of the same elements
-tabulate-same : {A : Type 0} (f g : ℕ → A) (n : ℕ) → ((y : ℕ) → y < n → f y ≡ g y) → tabulate f n ≡ tabulate g n
-unfolding tabulate
-tabulate-same f g zero h = refl
-tabulate-same f g (suc n) h = rw (tabulate-same f g n (λ y l. h y (omega arith)), h n (omega arith))
-
--- an instruction, from what the code counts and the marks that it is given
-pub shape-is :
-    (t : List ℕ) (own : ProcedureEntry) (named : TypeEntry) (callee : ProcedureEntry) (row : Row) (takes gives : ℕ) (fresh : List Bool) (carries : Bool)
-    → Counted t own named callee row takes gives
-    → (m : Marking)
-    → Makes m t own named callee row fresh carries
-    → viewStep (record { opcode = row .a; operand = row .b; takes = takes; gives = gives; fresh = fresh; carries = carries }) ≡ stepOf t m own named callee row
-unfolding viewStep stepOf
-shape-is t own named callee row takes gives fresh carries counted m told = rw (← counted .0, ← counted .1, told .carried, tabulate-same _ _ gives (λ r h. told .made r (omega (arith, counted .1))))
 
 -- where marks come to, by steps that are not listed
 pub marks-are : (t : List ℕ) (ix : Index) (m : Marking) (q : ℕ) (p : ProcedureEntry)

@@ -1,11 +1,9 @@
-// How many operands each instruction takes and pushes, and which of those that it pushes are marked of themselves.
+// How many operands each instruction takes and pushes.
 ghost use mathlib.Core.Path.{_≡_};
 ghost use Prim.Native.Nat.{_+_, _-_, _<_};
 ghost use lib.ListN.{length};
 ghost use Rattle.declarations.specs.Program.{number, parametersEnd};
 ghost use Rattle.effects.specs.Effects.{effectOf};
-ghost use Rattle.steps.specs.Steps.{Marking, stepOf};
-ghost use Rattle.steps.specs.Shapes.{viewStep, Makes};
 use table::Row;
 use table::format;
 use table::index::ProcedureEntry;
@@ -15,28 +13,6 @@ use table::index::TypeEntry;
 pub struct Counts {
     pub takes: u16,
     pub gives: u16,
-}
-
-// An instruction: opcode and operand, how many operands it takes and pushes, and which of the first eight that it pushes are marked of themselves,
-// and whether it carries marks.
-pub struct Shape {
-    pub opcode: u8,
-    pub operand: u16,
-    pub takes: u16,
-    pub gives: u16,
-    pub fresh: [bool; 8],
-    pub carries: bool,
-}
-
-impl Shape {
-    pub const NONE: Shape = Shape {
-        opcode: 0,
-        operand: 0,
-        takes: 0,
-        gives: 0,
-        fresh: [false; 8],
-        carries: false,
-    };
 }
 
 // How many rows there are from one to before another.
@@ -118,28 +94,5 @@ pub fn counts_of(
         format::OP => Counts { takes: 2, gives: 1 },
         format::FREEZE => Counts { takes: 1, gives: 1 },
         format::PAST_OPCODES..=255 => Counts { takes: 0, gives: 0 },
-    }
-}
-
-// What a walk sees of an instruction, whose pushed operands are marked of themselves as `fresh` says, the first eight, and which carries marks or not.
-pub fn shape_of(
-    table: &[u8],
-    row: Row,
-    own: ProcedureEntry,
-    named: TypeEntry,
-    callee: ProcedureEntry,
-    fresh: [bool; 8],
-    carries: bool,
-) -> Shape
-    ensures { λ r. ⌜ ((m : Marking) → Makes m (now (table .entry)) own named callee row fresh carries → viewStep r ≡ stepOf (now (table .entry)) m own named callee row) ⌝ }
-{
-    let counts = counts_of(table, row, own, named, callee);
-    Shape {
-        opcode: row.a,
-        operand: row.b,
-        takes: counts.takes,
-        gives: counts.gives,
-        fresh,
-        carries,
     }
 }

@@ -48,6 +48,7 @@ enum Statement {
     Write,
     Look,
     Show,
+    Help,
     Call,
     If,
     Count,
@@ -60,6 +61,7 @@ enum Statement {
 
 pub struct Body<'a> {
     plan: &'a Plan,
+    carries: &'a [bool],
     rng: &'a mut Rng,
     me: usize,
     module: usize,
@@ -72,19 +74,38 @@ pub struct Body<'a> {
     most_code: usize,
 }
 
-/// Writes the body of procedure `me` of the plan.
-pub fn write_body(plan: &Plan, rng: &mut Rng, me: usize, statements: usize, most_code: usize) -> Vec<Code> {
+/// Writes the body of procedure `me` of the plan. `carries`: for each procedure, whether references that it is given and
+/// returns may be marked. Such a one is private and of a trusted module.
+pub fn write_body(
+    plan: &Plan,
+    carries: &[bool],
+    rng: &mut Rng,
+    me: usize,
+    statements: usize,
+    most_code: usize,
+) -> Vec<Code> {
     let forward = rng.chance(15);
     let procedure = &plan.procs[me];
     let sorts = procedure.locals();
     let slots = (0..sorts.len())
         .map(|local| Slot {
             fill: if local < procedure.params.len() { Fill::Full } else { Fill::Empty },
-            marked: false,
+            marked: carries[me] && local < procedure.params.len() && sorts[local] == Sort::NumberRef,
         })
         .collect();
-    let mut body =
-        Body { plan, rng, me, module: procedure.module, sorts, slots, code: Vec::new(), height: 0, forward, most_code };
+    let mut body = Body {
+        plan,
+        carries,
+        rng,
+        me,
+        module: procedure.module,
+        sorts,
+        slots,
+        code: Vec::new(),
+        height: 0,
+        forward,
+        most_code,
+    };
     for _ in 0..statements {
         body.statement(2);
     }
@@ -176,11 +197,17 @@ impl Body<'_> {
     }
 
     /// Procedures that give just this result; not `any_params` if the parameters must be simple to push.
-    fn callable_for(&self, result: Sort, any_params: bool) -> Vec<u16> {
+    fn callable_for(&self, result: Sort, any_params: bool, marked_ok: bool) -> Vec<u16> {
         self.callable(|number| {
             let one = &self.plan.procs[number];
-            one.results == [result] && (any_params || one.params.iter().all(|&sort| sort == Sort::Number))
+            let simple = any_params || one.params.iter().all(|&sort| sort == Sort::Number);
+            one.results == [result] && simple && (marked_ok || !self.gives_marked(number, result))
         })
+    }
+
+    /// Whether a result of this sort that the procedure gives may be marked.
+    fn gives_marked(&self, number: usize, result: Sort) -> bool {
+        self.carries[number] && result == Sort::NumberRef
     }
 
     // Values.
@@ -224,8 +251,10 @@ impl Body<'_> {
             ways.extend(self.own_fields(sort, marked_ok).into_iter().map(|(of, field)| (3, Way::Field(of, field))));
         }
         if depth > 0 || sort.is_record() {
-            let weight = if sort.is_view() { 5 } else { 1 };
-            ways.extend(self.callable_for(sort, depth > 0).into_iter().map(|number| (weight, Way::Call(number))));
+            for number in self.callable_for(sort, depth > 0, marked_ok) {
+                let weight = if sort.is_view() || self.gives_marked(number.into(), sort) { 5 } else { 1 };
+                ways.push((weight, Way::Call(number)));
+            }
         }
         ways
     }
@@ -257,6 +286,10 @@ impl Body<'_> {
                 self.value(through, depth, false)?;
                 self.emit(field(owner, number), 1, 1)?;
                 Some(!sort.is_view() && self.plan.types[usize::from(owner)].fields[usize::from(number)].guarded)
+            }
+            Way::Call(number) => {
+                self.call(number, depth)?;
+                Some(self.gives_marked(number.into(), sort))
             }
             _ => self.go_unmarked(way, sort, depth).map(|()| false),
         }
@@ -298,7 +331,6 @@ impl Body<'_> {
                 self.address()?;
                 self.emit(exists(of), 1, 1)
             }
-            Way::Call(number) => self.call(number, depth),
             Way::Pack => self.pack(of, depth),
             Way::MoveFrom => {
                 self.key()?;
@@ -352,7 +384,7 @@ impl Body<'_> {
     fn call(&mut self, number: u16, depth: usize) -> Option<()> {
         let callee = &self.plan.procs[usize::from(number)];
         for &sort in &callee.params {
-            self.value(sort, depth, false)?;
+            self.value(sort, depth, self.carries[usize::from(number)])?;
         }
         self.emit(call(number), callee.params.len(), callee.results.len())
     }
@@ -365,8 +397,17 @@ impl Body<'_> {
         Some(())
     }
 
+    /// Takes the results of a call away.
+    fn consume_results(&mut self, number: u16, keep: bool) -> Option<()> {
+        let results = self.plan.procs[usize::from(number)].results.clone();
+        for sort in results.into_iter().rev() {
+            self.consume(sort, keep, self.gives_marked(number.into(), sort))?;
+        }
+        Some(())
+    }
+
     /// Takes the topmost operand away, keeping it in a local where one fits.
-    fn consume(&mut self, sort: Sort, keep: bool) -> Option<()> {
+    fn consume(&mut self, sort: Sort, keep: bool, marked: bool) -> Option<()> {
         if let Sort::Record(of) = sort {
             let free = self.locals_with(|s, slot| s == sort && slot.fill == Fill::Empty);
             if keep && !free.is_empty() && self.rng.chance(60) {
@@ -378,7 +419,7 @@ impl Body<'_> {
         let locals = self.locals_with(|s, _| s == sort);
         if !locals.is_empty() && self.rng.chance(40) {
             let local = self.rng.pick(&locals);
-            return self.store(local, false);
+            return self.store(local, marked);
         }
         self.emit(pop(), 1, 0)
     }
@@ -393,9 +434,9 @@ impl Body<'_> {
                 return None;
             }
             let dropper = self.rng.pick(&droppers);
-            let results = self.plan.procs[usize::from(dropper)].results.clone();
-            self.emit(call(dropper), 1, results.len())?;
-            return results.into_iter().rev().try_for_each(|sort| self.consume(sort, false));
+            let results = self.plan.procs[usize::from(dropper)].results.len();
+            self.emit(call(dropper), 1, results)?;
+            return self.consume_results(dropper, false);
         }
         if self.rng.chance(35) {
             self.address()?;
@@ -403,7 +444,7 @@ impl Body<'_> {
         }
         let sorts: Vec<Sort> = self.plan.types[usize::from(of)].fields.iter().map(|field| field.sort).collect();
         self.emit(unpack(of.into()), 1, sorts.len())?;
-        sorts.into_iter().rev().try_for_each(|sort| self.consume(sort, false))
+        sorts.into_iter().rev().try_for_each(|sort| self.consume(sort, false, false))
     }
 
     // Statements. Operands are empty before and after each.
@@ -415,6 +456,7 @@ impl Body<'_> {
             (3, Statement::Write),
             (1, Statement::Look),
             (2, Statement::Show),
+            (2, Statement::Help),
             (3, Statement::Call),
             (if nesting > 0 { 3 } else { 0 }, Statement::If),
             (if nesting > 0 { 1 } else { 0 }, Statement::Count),
@@ -444,11 +486,16 @@ impl Body<'_> {
             Statement::Look => {
                 self.value(Sort::NumberView, 3, true)?;
                 self.emit(read(), 1, 1)?;
-                self.consume(Sort::Number, true)
+                self.consume(Sort::Number, true, false)
             }
             Statement::Show => {
                 let takes_view = |number: usize| self.plan.procs[number].params.iter().any(|sort| sort.is_view());
                 let callable = self.callable(takes_view);
+                self.call_statement(&callable)
+            }
+            Statement::Help => {
+                let takes_ref = |number: usize| self.plan.procs[number].params.contains(&Sort::NumberRef);
+                let callable = self.callable(|number| self.carries[number] && takes_ref(number));
                 self.call_statement(&callable)
             }
             Statement::Call => {
@@ -500,14 +547,13 @@ impl Body<'_> {
     fn empty_record(&mut self, local: u16) -> Option<()> {
         self.emit(mv(local), 0, 1)?;
         self.slots[usize::from(local)].fill = Fill::Empty;
-        self.consume(self.sorts[usize::from(local)], false)
+        self.consume(self.sorts[usize::from(local)], false, false)
     }
 
     fn call_statement(&mut self, callable: &[u16]) -> Option<()> {
         let number = (!callable.is_empty()).then(|| self.rng.pick(callable))?;
         self.call(number, 1)?;
-        let results = self.plan.procs[usize::from(number)].results.clone();
-        results.into_iter().rev().try_for_each(|sort| self.consume(sort, true))
+        self.consume_results(number, true)
     }
 
     fn statements(&mut self, nesting: usize) {
@@ -671,7 +717,7 @@ impl Body<'_> {
             self.clear_records()?;
         }
         for &sort in &results {
-            self.value(sort, 2, false)?;
+            self.value(sort, 2, self.carries[self.me])?;
         }
         self.clear_records()?;
         self.emit(ret(), results.len(), 0)?;

@@ -1,5 +1,6 @@
 //! For each refusal of tables a family of tables made to get it. Some miss: a fault put in may bring a lower one.
 
+use super::helpers;
 use super::limits;
 use super::plan::{asm::*, Plan, ProcPlan};
 use super::plan_faults::put_in_plan;
@@ -18,7 +19,7 @@ pub fn table(rng: &mut Rng, number: u32) -> Vec<u8> {
         3 if rng.chance(30) => return limits::table(2 * rng.below(7) + 1),
         11 if rng.chance(75) => tangled(rng, &[Flavour::Locals, Flavour::Locals, Flavour::Broad]),
         12 if rng.chance(75) => tangled(rng, &[Flavour::Records]),
-        13 | 14 if rng.chance(55) => tangled(rng, &[Flavour::Leaks, Flavour::Broad]),
+        13 | 14 if rng.chance(55) => tangled(rng, &[Flavour::Leaks, Flavour::Leaks, Flavour::Broad, Flavour::Helpers]),
         _ => base(rng),
     };
     let enough_as_it_is = match number {
@@ -53,21 +54,40 @@ pub fn table_with_views(rng: &mut Rng, family: Family) -> Vec<u8> {
     write_rows(&rows)
 }
 
+/// A table with helpers of the family, mended or not, alone or beside others.
+pub fn table_with_helpers(rng: &mut Rng, family: helpers::Family, mended: bool) -> Vec<u8> {
+    let mut plan = match rng.below(30) {
+        0..=25 => Plan::default(),
+        26..=28 => base(rng),
+        _ => tangled(rng, &[Flavour::Helpers]),
+    };
+    helpers::add(&mut plan, rng, family, mended);
+    if rng.chance(20) {
+        let (_, other) = rng.pick(&helpers::FAMILIES);
+        let mended = rng.chance(50);
+        helpers::add(&mut plan, rng, other, mended);
+    }
+    plan.bytes()
+}
+
 #[derive(Clone, Copy)]
 enum Fault {
     Refusal(u32),
     Views(Family),
+    Helpers(helpers::Family),
 }
 
 impl Fault {
     /// A fault of one of these refusals.
     fn new(rng: &mut Rng, refusals: &[u32]) -> Fault {
-        let families: Vec<Family> =
-            FAMILIES.iter().filter(|(number, _)| refusals.contains(number)).map(|&(_, family)| family).collect();
-        if families.is_empty() || rng.chance(65) {
-            Fault::Refusal(rng.pick(refusals))
-        } else {
-            Fault::Views(rng.pick(&families))
+        let views = FAMILIES.iter().filter(|(number, _)| refusals.contains(number));
+        let helped = helpers::FAMILIES.iter().filter(|(number, _)| refusals.contains(number));
+        let views: Vec<Fault> = views.map(|&(_, family)| Fault::Views(family)).collect();
+        let helped: Vec<Fault> = helped.map(|&(_, family)| Fault::Helpers(family)).collect();
+        match rng.below(100) {
+            0..=24 if !views.is_empty() => rng.pick(&views),
+            25..=36 if !helped.is_empty() => rng.pick(&helped),
+            _ => Fault::Refusal(rng.pick(refusals)),
         }
     }
 
@@ -75,6 +95,10 @@ impl Fault {
         match self {
             Fault::Refusal(number) => put_in_plan(plan, rng, number),
             Fault::Views(family) => view_faults::put_in_plan(plan, rng, family),
+            Fault::Helpers(family) => {
+                let mended = rng.chance(20);
+                helpers::add(plan, rng, family, mended);
+            }
         }
     }
 
@@ -82,6 +106,7 @@ impl Fault {
         match self {
             Fault::Refusal(number) => put_in_rows(rows, rng, number),
             Fault::Views(family) => view_faults::put_in_rows(rows, rng, family),
+            Fault::Helpers(_) => {}
         }
     }
 }

@@ -229,10 +229,73 @@ pub enum Id {
     LateStaleRecordLocal,
     LateStaleFrame,
     LateStaleEmpty,
+    /// address: a reference to the coin's first number. Private, as are those below.
+    Slot,
+    /// address: references to both numbers of the coin.
+    Slots,
+    /// reference: gives it back.
+    Hand,
+    /// two references: gives them back the other way round.
+    Swap,
+    /// reference, value: adds.
+    Raise,
+    /// value, reference: subtracts.
+    Lower,
+    /// count, reference, value: frames on frames; the last one writes.
+    Sink,
+    /// count, two references: gives the first or the second one back; calls Odd with them turned.
+    Even,
+    Odd,
+    /// reference, address: publishes a coin, then writes.
+    PublishBeside,
+    /// reference, address: withdraws a coin and breaks it up, then writes.
+    WithdrawBeside,
+    /// reference, count: writes, then each frame holds nine coins in locals.
+    HoldBeside,
+    /// reference, count, address: publishes coins in a row, then writes.
+    FillBeside,
+    /// reference, count: writes in a loop.
+    SpinBeside,
+    /// address, value: writes through what a helper gives. Public, as are those below.
+    HelpSet,
+    /// address, value
+    HelpBump,
+    /// address, value
+    HelpTake,
+    /// address: exchanges the numbers of the coin.
+    HelpSwap,
+    /// count, address, value
+    HelpDeep,
+    /// count, address, value: writes the first or the second number.
+    HelpEither,
+    /// address: a helper is given a reference to a coin broken up.
+    HelpStale,
+    /// address: the same after its room was used again.
+    HelpStaleReused,
+    /// address, value, x: writes through helpers, then stops.
+    HelpStop,
+    /// address, value, b: writes in frames of helpers, then subtracts in one.
+    HelpDeepStop,
+    /// address, other
+    HelpPublish,
+    /// address, other
+    HelpWithdraw,
+    /// count, address
+    HelpHold,
+    /// address, count, from
+    HelpFill,
+    /// address, count
+    HelpSpin,
+    /// address: the user reads what a helper gave.
+    HelpShow,
+    /// address: what a helper gave follows its coin into a box.
+    HelpFollow,
+    /// from, to, value: the user pays by way of helpers.
+    HelpPay,
 }
 
 /// In the order of their numbers.
-pub const ALL: [Id; 114] = [
+pub const ALL: [Id; 146] = [
     Id::Mint,
     Id::Get,
     Id::Set,
@@ -347,6 +410,38 @@ pub const ALL: [Id; 114] = [
     Id::LateStaleRecordLocal,
     Id::LateStaleFrame,
     Id::LateStaleEmpty,
+    Id::Slot,
+    Id::Slots,
+    Id::Hand,
+    Id::Swap,
+    Id::Raise,
+    Id::Lower,
+    Id::Sink,
+    Id::Even,
+    Id::Odd,
+    Id::PublishBeside,
+    Id::WithdrawBeside,
+    Id::HoldBeside,
+    Id::FillBeside,
+    Id::SpinBeside,
+    Id::HelpSet,
+    Id::HelpBump,
+    Id::HelpTake,
+    Id::HelpSwap,
+    Id::HelpDeep,
+    Id::HelpEither,
+    Id::HelpStale,
+    Id::HelpStaleReused,
+    Id::HelpStop,
+    Id::HelpDeepStop,
+    Id::HelpPublish,
+    Id::HelpWithdraw,
+    Id::HelpHold,
+    Id::HelpFill,
+    Id::HelpSpin,
+    Id::HelpShow,
+    Id::HelpFollow,
+    Id::HelpPay,
 ];
 
 const N: Sort = Sort::Number;
@@ -363,6 +458,10 @@ const fn to(id: Id) -> Code {
 
 const fn bank(params: Vec<Sort>, others: Vec<Sort>, results: Vec<Sort>, code: Vec<Code>) -> ProcPlan {
     ProcPlan { module: BANK, public: true, params, others, results, code }
+}
+
+const fn helper(params: Vec<Sort>, others: Vec<Sort>, results: Vec<Sort>, code: Vec<Code>) -> ProcPlan {
+    ProcPlan { module: BANK, public: false, params, others, results, code }
 }
 
 const fn user(params: Vec<Sort>, others: Vec<Sort>, results: Vec<Sort>, code: Vec<Code>) -> ProcPlan {
@@ -385,7 +484,7 @@ type Writer = fn(Id) -> ProcPlan;
 
 /// The procedure, with calls that name an `Id`.
 fn procedure(id: Id) -> ProcPlan {
-    let groups: [(Id, Writer); 12] = [
+    let groups: [(Id, Writer); 15] = [
         (Id::Uncrate, store_procedure),
         (Id::Hold9, many_records),
         (Id::Compare, plain),
@@ -398,9 +497,12 @@ fn procedure(id: Id) -> ProcPlan {
         (Id::NoteGet, handed_out),
         (Id::HandleFrozenCoin, read_only),
         (Id::EarlyRefilled, frozen_when_kept),
+        (Id::LateStaleEmpty, frozen_when_used),
+        (Id::Odd, helper_for_one),
+        (Id::SpinBeside, helper_beside),
     ];
     let group = groups.iter().find(|(last, _)| id <= *last);
-    group.map_or(frozen_when_used as Writer, |(_, write)| *write)(id)
+    group.map_or(helped as Writer, |(_, write)| *write)(id)
 }
 
 fn store_procedure(id: Id) -> ProcPlan {
@@ -813,6 +915,134 @@ fn freeze_beside(one: &ProcPlan, rewrite: impl Fn(Code) -> Vec<Code>) -> Vec<Cod
     one.code.iter().flat_map(|&code| if on_reference(code) { rewrite(code) } else { vec![code] }).collect()
 }
 
+/// Private procedures of the bank for references to numbers of coins.
+fn helper_for_one(id: Id) -> ProcPlan {
+    let turn = |other: Id| {
+        let code = vec![cp(0), jump_if(4), mv(1), ret(), mv(0), load(1), arith(SUB), mv(2), mv(1), to(other), ret()];
+        helper(vec![N, R, R], vec![], vec![R], code)
+    };
+    match id {
+        Id::Slot => helper(vec![N], vec![], vec![R], vec![mv(0), global(COIN), field(COIN, 0), ret()]),
+        Id::Slots => {
+            let code = vec![cp(0), global(COIN), field(COIN, 0), mv(0), global(COIN), field(COIN, 1), ret()];
+            helper(vec![N], vec![], vec![R, R], code)
+        }
+        Id::Hand => helper(vec![R], vec![], vec![R], vec![mv(0), ret()]),
+        Id::Swap => helper(vec![R, R], vec![], vec![R, R], vec![mv(1), mv(0), ret()]),
+        Id::Raise => helper(vec![R, N], vec![], vec![], vec![cp(0), read(), mv(1), arith(ADD), mv(0), write(), ret()]),
+        Id::Lower => helper(vec![N, R], vec![], vec![], vec![cp(1), read(), mv(0), arith(SUB), mv(1), write(), ret()]),
+        Id::Sink => {
+            let down = [mv(0), load(1), arith(SUB), mv(1), mv(2), to(Id::Sink), ret()];
+            let code = join(&[&[cp(0), jump_if(6), mv(2), mv(1), write(), ret()], &down]);
+            helper(vec![N, R, N], vec![], vec![], code)
+        }
+        Id::Even => turn(Id::Odd),
+        _ => turn(Id::Even),
+    }
+}
+
+/// The same; they do other things while they hold the reference, their parameter 0.
+fn helper_beside(id: Id) -> ProcPlan {
+    let last = [load(3), mv(0), write(), ret()];
+    match id {
+        Id::PublishBeside => {
+            let publish = [load(7), load(8), pack(COIN), mv(1), move_to(COIN)];
+            helper(vec![R, N], vec![], vec![], join(&[&publish, &last]))
+        }
+        Id::WithdrawBeside => {
+            let withdraw = join(&[&[mv(1), move_from(COIN)], &BREAK]);
+            helper(vec![R, N], vec![], vec![], join(&[&withdraw, &last]))
+        }
+        Id::HoldBeside => {
+            let mut code = vec![cp(1), cp(0), write()];
+            for local in 2..11 {
+                code.extend([load(u64::from(local)), load(0), pack(COIN), st(local)]);
+            }
+            let here = code.len() as u16;
+            let down = [cp(0), cp(1), load(1), arith(SUB), to(Id::HoldBeside)];
+            code.extend([cp(1), jump_if(here + 3), jump(here + 8)]);
+            code.extend(down);
+            for local in 2..11 {
+                code.push(mv(local));
+                code.extend(BREAK);
+            }
+            code.push(ret());
+            helper(vec![R, N], vec![C; 9], vec![], code)
+        }
+        Id::FillBeside => {
+            let publish = [cp(2), load(1), pack(COIN), cp(2), move_to(COIN), cp(2), load(1), arith(ADD), st(2)];
+            let count = [cp(1), load(1), arith(SUB), st(1), jump(0)];
+            helper(vec![R, N, N], vec![], vec![], join(&[&[cp(1), jump_if(6)], &last, &publish, &count]))
+        }
+        _ => {
+            let count = [cp(1), cp(0), write(), cp(1), load(1), arith(SUB), st(1), jump(0)];
+            helper(vec![R, N], vec![], vec![], join(&[&[cp(1), jump_if(3), ret()], &count]))
+        }
+    }
+}
+
+/// Public procedures that have their work done by helpers.
+fn helped(id: Id) -> ProcPlan {
+    let slot = [cp(0), to(Id::Slot)];
+    let keep = [cp(0), to(Id::Slot), st(1)];
+    let break_stored = join(&[&[cp(0), move_from(COIN)], &BREAK]);
+    match id {
+        Id::HelpSet => bank(vec![N, N], vec![], vec![], join(&[&[mv(1)], &slot, &[write(), ret()]])),
+        Id::HelpBump => bank(vec![N, N], vec![], vec![], join(&[&slot, &[mv(1), to(Id::Raise), ret()]])),
+        Id::HelpTake => bank(vec![N, N], vec![], vec![], join(&[&[mv(1)], &slot, &[to(Id::Lower), ret()]])),
+        Id::HelpSwap => {
+            let both = [mv(0), to(Id::Slots), to(Id::Swap), st(2), st(1), cp(1), read(), st(3)];
+            let turn = [cp(2), read(), mv(1), write(), mv(3), mv(2), write(), ret()];
+            bank(vec![N], vec![R, R, N], vec![], join(&[&both, &turn]))
+        }
+        Id::HelpDeep => {
+            let code = vec![mv(0), mv(1), to(Id::Slot), mv(2), to(Id::Sink), ret()];
+            bank(vec![N, N, N], vec![], vec![], code)
+        }
+        Id::HelpEither => {
+            let code = vec![mv(2), mv(0), mv(1), to(Id::Slots), to(Id::Even), to(Id::Hand), write(), ret()];
+            bank(vec![N, N, N], vec![], vec![], code)
+        }
+        Id::HelpStale => {
+            let code = join(&[&keep, &break_stored, &[load(1), mv(1), to(Id::Hand), to(Id::Lower), ret()]]);
+            bank(vec![N], vec![R], vec![], code)
+        }
+        Id::HelpStaleReused => {
+            let again = [load(70), load(71), pack(COIN), cp(0), move_to(COIN)];
+            let code = join(&[&keep, &break_stored, &again, &[cp(1), to(Id::Hand), load(1), to(Id::Raise), ret()]]);
+            bank(vec![N], vec![R], vec![], code)
+        }
+        Id::HelpStop => {
+            let write_both = join(&[&[cp(1)], &slot, &[write()], &slot, &[mv(1), to(Id::Raise)]]);
+            bank(vec![N, N, N], vec![], vec![], join(&[&write_both, &less_one(2), &[ret()]]))
+        }
+        Id::HelpDeepStop => {
+            let deep = join(&[&[load(3)], &slot, &[mv(1), to(Id::Sink)]]);
+            bank(vec![N, N, N], vec![], vec![], join(&[&deep, &[mv(2)], &slot, &[to(Id::Lower), ret()]]))
+        }
+        Id::HelpPublish => bank(vec![N, N], vec![], vec![], join(&[&slot, &[mv(1), to(Id::PublishBeside), ret()]])),
+        Id::HelpWithdraw => bank(vec![N, N], vec![], vec![], join(&[&slot, &[mv(1), to(Id::WithdrawBeside), ret()]])),
+        Id::HelpHold => {
+            let code = vec![mv(1), to(Id::Slot), mv(0), to(Id::HoldBeside), ret()];
+            bank(vec![N, N], vec![], vec![], code)
+        }
+        Id::HelpFill => bank(vec![N, N, N], vec![], vec![], join(&[&slot, &[mv(1), mv(2), to(Id::FillBeside), ret()]])),
+        Id::HelpSpin => bank(vec![N, N], vec![], vec![], join(&[&slot, &[mv(1), to(Id::SpinBeside), ret()]])),
+        Id::HelpShow => bank(vec![N], vec![], vec![N], join(&[&[load(1)], &slot, &[freeze(), to(Id::Label), ret()]])),
+        Id::HelpFollow => {
+            let box_up = [cp(0), move_from(COIN), load(8), pack(BOX), cp(0), move_to(BOX)];
+            let write = [load(41), cp(1), to(Id::Hand), write()];
+            let unbox = [cp(0), move_from(BOX), unpack(BOX), pop(), cp(0), move_to(COIN)];
+            let code = join(&[&keep, &box_up, &write, &unbox, &[mv(1), to(Id::Hand), read(), ret()]]);
+            bank(vec![N], vec![R], vec![N], code)
+        }
+        _ => {
+            let code = vec![mv(0), cp(2), to(Id::HelpTake), mv(1), mv(2), to(Id::HelpBump), ret()];
+            user(vec![N, N, N], vec![], vec![], code)
+        }
+    }
+}
+
 /// A table of some kit procedures and the number of each.
 pub struct Kit {
     pub plan: Plan,
@@ -858,7 +1088,7 @@ impl Kit {
         let fits = |&id: &Id| {
             let one = procedure(id);
             let numbers = one.params.iter().chain(&one.results).all(|&sort| sort == N);
-            numbers.then_some((id, one.params.len()))
+            (one.public && numbers).then_some((id, one.params.len()))
         };
         self.ids.iter().filter_map(fits).collect()
     }

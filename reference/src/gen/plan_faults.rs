@@ -266,6 +266,7 @@ fn add_leak(plan: &mut Plan, rng: &mut Rng, number: u32) {
     let of = plan.add_type(module, &[(Sort::Number, plan.trusted[module]), (Sort::Number, false)]);
     let sink = plan.add_proc(ProcPlan {
         module,
+        public: rng.chance(90),
         params: vec![Sort::Number, Sort::NumberRef],
         code: vec![mv(1), pop(), ret()],
         ..ProcPlan::default()

@@ -1,5 +1,6 @@
 //! The made runs: case `number` of a seed is a table, a call list and the length of a text buffer.
 
+use super::helpers;
 use super::keys;
 use super::kit::{Id, Kit, ALL};
 use super::plan::{argument_row, asm::call, call_row, Plan, ProcPlan};
@@ -24,7 +25,7 @@ pub fn case(seed: u64, number: u64) -> Case {
     let mut rng = Rng::stream(seed, 2, number);
     let rng = &mut rng;
     let mut text_len = limit::TEXT_BYTES + if rng.chance(5) { rng.below(5_000) } else { 0 };
-    let (table, list) = match rng.below(142) {
+    let (table, list) = match rng.below(164) {
         0..=18 => random_run(rng),
         19..=25 => tangled_run(rng),
         26..=58 => {
@@ -59,7 +60,12 @@ pub fn case(seed: u64, number: u64) -> Case {
             let script = till_script(rng);
             kit_run(rng, &script)
         }
-        _ => key_run(rng),
+        117..=141 => key_run(rng),
+        142..=155 => {
+            let script = helper_script(rng);
+            kit_run(rng, &script)
+        }
+        _ => helper_run(rng),
     };
     Case { table, list, text_len }
 }
@@ -204,6 +210,20 @@ pub fn tangled_run(rng: &mut Rng) -> (Vec<u8>, Vec<u8>) {
         table = tables::tangled(rng);
     }
     run_of(rng, table)
+}
+
+/// A table whose helpers hand a reference to a guarded number on without harm.
+pub fn helper_run(rng: &mut Rng) -> (Vec<u8>, Vec<u8>) {
+    let mut plan = Plan::default();
+    for _ in 0..4 {
+        plan = Plan::default();
+        let (_, family) = rng.pick(&helpers::FAMILIES);
+        helpers::add(&mut plan, rng, family, true);
+        if crate::admit(&plan.bytes()).is_ok_and(|program| !entries(&program).is_empty()) {
+            break;
+        }
+    }
+    run_of(rng, plan.bytes())
 }
 
 // Runs of kit procedures.
@@ -521,6 +541,41 @@ fn showing_script(rng: &mut Rng) -> Script {
     calls
 }
 
+/// Helpers read and write numbers of coins, and meet every stop while they hold references to them.
+fn helper_script(rng: &mut Rng) -> Script {
+    let mut calls = vec![(Id::Mint, vec![0, 500]), (Id::Mint, vec![1, edge(rng)])];
+    for _ in 0..rng.within(2, 7) {
+        let at = address(rng);
+        let (a, b) = if rng.chance(50) { two_numbers(rng) } else { addends(rng) };
+        let x = u64::from(rng.chance(25));
+        let deep = rng.within(12, 16) as u64;
+        calls.push(match rng.below(22) {
+            0 => (Id::HelpSet, vec![at, a]),
+            1 | 2 => (Id::HelpBump, vec![at, b]),
+            3 | 4 => (Id::HelpTake, vec![at, b]),
+            5 => (Id::HelpSwap, vec![at]),
+            6 | 7 => (Id::HelpDeep, vec![if rng.chance(60) { deep } else { 2 }, at, a]),
+            8 | 9 => (Id::HelpEither, vec![if rng.chance(30) { deep } else { rng.below(6) as u64 }, at, a]),
+            10 => (Id::HelpStale, vec![at]),
+            11 => (Id::HelpStaleReused, vec![at]),
+            12 => (Id::HelpStop, vec![at, a, x]),
+            13 => (Id::HelpDeepStop, vec![at, a, b]),
+            14 => (Id::HelpPublish, vec![at, address(rng) + 1]),
+            15 => (Id::HelpWithdraw, vec![at, address(rng)]),
+            16 => (Id::HelpHold, vec![rng.within(11, 15) as u64, at]),
+            17 => (Id::HelpFill, vec![at, rng.within(58, 65) as u64, 100]),
+            18 => (Id::HelpSpin, vec![at, rng.pick(&[3, 20, 100_000])]),
+            19 => (Id::HelpShow, vec![at]),
+            20 => (Id::HelpFollow, vec![at]),
+            _ => (Id::HelpPay, vec![at, address(rng), b]),
+        });
+        if rng.chance(30) {
+            calls.push((Id::Get, vec![at]));
+        }
+    }
+    calls
+}
+
 fn any_script(rng: &mut Rng) -> Script {
     let wanted: Vec<Id> = (0..rng.within(2, 6)).map(|_| rng.pick(&ALL)).chain([Id::Mint]).collect();
     let entries = Kit::new(rng, &wanted).entries();
@@ -586,8 +641,8 @@ fn longest_list(rng: &mut Rng) -> (Vec<u8>, Vec<u8>) {
 
 // Lists that are refused.
 
-/// Procedures with a parameter or a result that is a reference.
-const NOT_OF_NUMBERS: [Id; 4] = [Id::Lend, Id::Value, Id::Weight, Id::Label];
+/// Procedures with a parameter or a result that is a reference; one of them is private.
+const NOT_OF_NUMBERS: [Id; 5] = [Id::Lend, Id::Value, Id::Weight, Id::Label, Id::Slot];
 
 fn bad_list(rng: &mut Rng) -> (Vec<u8>, Vec<u8>) {
     let script = stopping_script(rng);

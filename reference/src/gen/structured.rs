@@ -38,9 +38,13 @@ pub fn plan(rng: &mut Rng, size: Size) -> Plan {
     for module in 0..plan.trusted.len() {
         add_procs(&mut plan, rng, module, size);
     }
+    let carries: Vec<bool> =
+        plan.procs.iter().map(|one| !one.public && plan.trusted[one.module] && rng.chance(75)).collect();
+    // Many procedures have less room each.
+    let most_code = size.most_code.min(1_600 / plan.procs.len().max(1));
     for me in 0..plan.procs.len() {
         let statements = rng.within(0, size.statements);
-        plan.procs[me].code = write_body(&plan, rng, me, statements, size.most_code);
+        plan.procs[me].code = write_body(&plan, &carries, rng, me, statements, most_code);
     }
     plan
 }
@@ -76,6 +80,7 @@ fn add_procs(plan: &mut Plan, rng: &mut Rng, module: usize, size: Size) {
         }
     }
     add_showing(plan, rng, module);
+    add_helpers(plan, rng, module);
     for _ in 0..rng.within(1, size.procs) {
         let entry = rng.chance(50);
         let procedure = some_proc(plan, rng, module, entry);
@@ -108,6 +113,30 @@ fn add_showing(plan: &mut Plan, rng: &mut Rng, module: usize) {
     if rng.chance(20) {
         let (params, results) = (vec![Sort::NumberView], vec![Sort::Number]);
         plan.add_proc(ProcPlan { module, public: rng.chance(85), params, results, ..ProcPlan::default() });
+    }
+}
+
+/// Private procedures for the module's guarded numbers: some borrow one, some are given a reference to one.
+fn add_helpers(plan: &mut Plan, rng: &mut Rng, module: usize) {
+    for of in 0..plan.types.len() {
+        let one = &plan.types[of];
+        if one.module != module || !one.fields.iter().any(|field| field.guarded) || !rng.chance(14) {
+            continue;
+        }
+        let reference = Sort::NumberRef;
+        let from = rng.pick(&[Sort::RecordRef(of as u8), Sort::RecordRef(of as u8), Sort::Number]);
+        let mut others: [(&[Sort], &[Sort]); 4] = [
+            (&[Sort::Number, reference], &[]),
+            (&[reference], &[reference]),
+            (&[reference, reference], &[reference, reference]),
+            (&[reference], &[Sort::Number]),
+        ];
+        rng.shuffle(&mut others);
+        let borrows: (&[Sort], &[Sort]) = (&[from], &[reference]);
+        for &(params, results) in [borrows].iter().chain(&others[..1]) {
+            let (params, results) = (params.to_vec(), results.to_vec());
+            plan.add_proc(ProcPlan { module, params, results, ..ProcPlan::default() });
+        }
     }
 }
 

@@ -3,7 +3,7 @@
 use super::rng::Rng;
 use super::structured::{self, some_size};
 use super::wild::{self, Flavour};
-use super::{faults, limits, mutate, row_faults, view_faults};
+use super::{faults, helpers, limits, mutate, row_faults, view_faults};
 use crate::row::{kind, write_rows, Row};
 
 /// Every so many tables one of the tables at the limits.
@@ -34,7 +34,7 @@ pub fn table(seed: u64, number: u64) -> Vec<u8> {
         return limits::table((number / LIMIT_EVERY) as usize % limits::TABLES);
     }
     let mut rng = Rng::stream(seed, 1, number);
-    match rng.below(100) {
+    match rng.below(123) {
         0..=16 => accepted(&mut rng),
         17..=31 => mutated(&mut rng),
         32..=81 => {
@@ -46,7 +46,13 @@ pub fn table(seed: u64, number: u64) -> Vec<u8> {
             faults::table_with_views(&mut rng, family)
         }
         91..=97 => faults::table_of_many(&mut rng),
-        _ => noise(&mut rng),
+        98 | 99 => noise(&mut rng),
+        100..=119 => {
+            let (_, family) = rng.pick(&helpers::FAMILIES);
+            let mended = rng.chance(50);
+            faults::table_with_helpers(&mut rng, family, mended)
+        }
+        _ => wild::plan(&mut rng, Flavour::Helpers).bytes(),
     }
 }
 
@@ -58,7 +64,8 @@ pub fn accepted(rng: &mut Rng) -> Vec<u8> {
 
 /// A well-typed table that the judge may refuse for its locals or leaks.
 pub fn tangled(rng: &mut Rng) -> Vec<u8> {
-    let flavour = rng.pick(&[Flavour::Locals, Flavour::Records, Flavour::Leaks, Flavour::Broad]);
+    let flavours = [Flavour::Locals, Flavour::Records, Flavour::Leaks, Flavour::Broad, Flavour::Helpers];
+    let flavour = rng.pick(&flavours);
     wild::plan(rng, flavour).bytes()
 }
 
@@ -68,7 +75,8 @@ fn mutated(rng: &mut Rng) -> Vec<u8> {
         let size = some_size(rng);
         structured::plan(rng, size).rows()
     } else {
-        wild::plan(rng, Flavour::Leaks).rows()
+        let flavour = rng.pick(&[Flavour::Leaks, Flavour::Leaks, Flavour::Helpers]);
+        wild::plan(rng, flavour).rows()
     };
     for _ in 0..rng.within(1, 3) {
         if rng.chance(15) {

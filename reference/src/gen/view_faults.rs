@@ -314,14 +314,14 @@ pub fn add_pair(plan: &mut Plan, rng: &mut Rng, number: u32, frozen: bool) {
     let code = pair_code(rng, of, frozen, &out);
     plan.add_proc(ProcPlan { module, public: true, params, others, results, code });
     if number == 13 {
-        // The callee is one of the module's own or a guest's.
+        // The callee is a public one of the module's own or a guest's.
         let guest = rng.chance(60);
         if guest {
             plan.trusted.push(false);
         }
         let module = module + usize::from(guest);
         let code = vec![mv(2), read(), pop(), mv(1), pop(), ret()];
-        plan.add_proc(ProcPlan { module, public: guest, params: leaving, code, ..ProcPlan::default() });
+        plan.add_proc(ProcPlan { module, public: true, params: leaving, code, ..ProcPlan::default() });
     }
 }
 

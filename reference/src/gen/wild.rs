@@ -15,6 +15,8 @@ pub enum Flavour {
     Leaks,
     /// One branch after another, each with or without an effect: very many states of the locals together.
     Broad,
+    /// The same as `Leaks` in several procedures, mostly private, that call one another and themselves.
+    Helpers,
 }
 
 const COIN: u16 = 0;
@@ -27,8 +29,11 @@ const SHOW: u16 = 2;
 /// Takes a read-only reference to a coin and gives one to its first number.
 const LOOK: u16 = 3;
 
+/// Parameters and results.
+type Signature = (Vec<Sort>, Vec<Sort>);
+
 pub fn plan(rng: &mut Rng, flavour: Flavour) -> Plan {
-    let trusted = matches!(flavour, Flavour::Leaks | Flavour::Broad) || rng.chance(50);
+    let trusted = matches!(flavour, Flavour::Leaks | Flavour::Broad | Flavour::Helpers) || rng.chance(50);
     let mut plan = Plan { trusted: vec![trusted], ..Plan::default() };
     if rng.chance(30) {
         plan.trusted.push(rng.chance(50));
@@ -44,10 +49,20 @@ pub fn plan(rng: &mut Rng, flavour: Flavour) -> Plan {
     ];
     for (param, results, code) in helpers {
         let (params, results, code) = (vec![param], results.to_vec(), code.to_vec());
-        plan.add_proc(ProcPlan { public: rng.chance(50), params, results, code, ..ProcPlan::default() });
+        let public = rng.chance(if flavour == Flavour::Helpers { 30 } else { 50 });
+        plan.add_proc(ProcPlan { public, params, results, code, ..ProcPlan::default() });
+    }
+    if flavour == Flavour::Helpers {
+        add_web(&mut plan, rng);
+        return plan;
     }
     for _ in 0..rng.within(1, 2) {
-        let one = if flavour == Flavour::Broad { broad(rng) } else { Maze::procedure(rng, flavour) };
+        let one = if flavour == Flavour::Broad {
+            broad(rng)
+        } else {
+            let signature = some_signature(rng);
+            Maze::procedure(rng, flavour, signature, &[])
+        };
         let maze = plan.add_proc(one);
         if rng.chance(50) {
             let driver = driver(&plan, maze);
@@ -57,22 +72,59 @@ pub fn plan(rng: &mut Rng, flavour: Flavour) -> Plan {
     plan
 }
 
+/// Adds procedures that know one another, and a driver for some of them.
+fn add_web(plan: &mut Plan, rng: &mut Rng) {
+    let count = rng.within(2, 3);
+    let first = plan.procs.len();
+    let mut web: Vec<(u16, Signature)> = Vec::new();
+    for number in first..first + count {
+        web.push((number as u16, some_signature(rng)));
+    }
+    let mut private = Vec::new();
+    for (_, signature) in &web {
+        let mut one = Maze::procedure(rng, Flavour::Helpers, signature.clone(), &web);
+        let gives_refs = signature.1.contains(&Sort::NumberRef);
+        one.public = rng.chance(if gives_refs { 18 } else { 30 });
+        private.push(!one.public);
+        plan.add_proc(one);
+    }
+    for (number, private) in (first..).zip(private) {
+        if rng.chance(35) {
+            let driver = driver_through(plan, number as u16, private);
+            plan.add_proc(driver);
+        }
+    }
+}
+
 /// A procedure that a list can call: it makes a coin, sends references through the maze and breaks the coin up.
 fn driver(plan: &Plan, maze: u16) -> ProcPlan {
+    driver_through(plan, maze, false)
+}
+
+/// The same; one that gives guarded references writes through what comes back.
+fn driver_through(plan: &Plan, maze: u16, guarded: bool) -> ProcPlan {
     let inside = &plan.procs[usize::from(maze)];
     let mut code = vec![load(4), load(6), pack(COIN), st(2)];
+    code.extend(guarded.then_some(cp(0)));
     for sort in &inside.params {
-        code.push(match sort {
-            Sort::Number => cp(0),
-            Sort::NumberRef | Sort::NumberView => borrow(1),
-            _ => borrow(2),
-        });
+        match sort {
+            Sort::Number => code.push(cp(0)),
+            Sort::NumberRef if guarded => code.extend([borrow(2), field(COIN, 0)]),
+            Sort::NumberRef | Sort::NumberView => code.push(borrow(1)),
+            _ => code.push(borrow(2)),
+        }
         if sort.is_view() {
             code.push(freeze());
         }
     }
     code.push(call(maze));
-    code.resize(code.len() + inside.results.len(), pop());
+    let results = inside.results.len();
+    if guarded && inside.results.first() == Some(&Sort::NumberRef) {
+        code.resize(code.len() + results - 1, pop());
+        code.push(write());
+    } else {
+        code.resize(code.len() + results + usize::from(guarded), pop());
+    }
     code.extend([mv(2), unpack(COIN), ret()]);
     ProcPlan {
         module: 0,
@@ -141,6 +193,7 @@ fn broad(rng: &mut Rng) -> ProcPlan {
 struct Maze<'a> {
     rng: &'a mut Rng,
     flavour: Flavour,
+    web: Vec<(u16, Signature)>,
     results: Vec<Sort>,
     numbers: Vec<u16>,
     refs: Vec<u16>,
@@ -151,27 +204,34 @@ struct Maze<'a> {
     code: Vec<Code>,
 }
 
+/// Parameters that bring a number and a reference to a coin, and some results.
+fn some_signature(rng: &mut Rng) -> Signature {
+    let coin = COIN as u8;
+    let params = match rng.below(5) {
+        0 => vec![Sort::RecordRef(coin), Sort::Number],
+        1 => vec![Sort::RecordRef(coin), Sort::Number, Sort::NumberRef],
+        2 => vec![Sort::RecordRef(coin), Sort::Number, Sort::NumberView],
+        3 => vec![Sort::RecordView(coin), Sort::RecordRef(coin), Sort::Number],
+        _ => vec![Sort::Number, Sort::RecordRef(coin), Sort::NumberRef],
+    };
+    let (reference, view) = (Sort::NumberRef, Sort::NumberView);
+    let results: [&[Sort]; 6] =
+        [&[], &[reference], &[Sort::Number, reference], &[reference, reference], &[view], &[reference, view]];
+    (params, rng.pick(&results).to_vec())
+}
+
 impl Maze<'_> {
-    fn procedure(rng: &mut Rng, flavour: Flavour) -> ProcPlan {
+    /// `web`: procedures that it calls too.
+    fn procedure(rng: &mut Rng, flavour: Flavour, (params, results): Signature, web: &[(u16, Signature)]) -> ProcPlan {
         let coin = COIN as u8;
-        let params = match rng.below(5) {
-            0 => vec![Sort::RecordRef(coin), Sort::Number],
-            1 => vec![Sort::RecordRef(coin), Sort::Number, Sort::NumberRef],
-            2 => vec![Sort::RecordRef(coin), Sort::Number, Sort::NumberView],
-            3 => vec![Sort::RecordView(coin), Sort::RecordRef(coin), Sort::Number],
-            _ => vec![Sort::Number, Sort::RecordRef(coin), Sort::NumberRef],
-        };
         let mut others = vec![Sort::Number; rng.within(1, 2)];
-        others.resize(others.len() + rng.within(1, 4), Sort::NumberRef);
-        others.resize(others.len() + rng.within(1, 2), Sort::NumberView);
+        let most = if flavour == Flavour::Helpers { (2, 1) } else { (4, 2) };
+        others.resize(others.len() + rng.within(1, most.0), Sort::NumberRef);
+        others.resize(others.len() + rng.within(1, most.1), Sort::NumberView);
         others.resize(others.len() + rng.below(2), Sort::RecordRef(coin));
         others.resize(others.len() + rng.below(2), Sort::RecordView(coin));
         let coins = if flavour == Flavour::Records { rng.within(1, 3) } else { rng.below(2) };
         others.resize(others.len() + coins, Sort::Record(coin));
-        let (reference, view) = (Sort::NumberRef, Sort::NumberView);
-        let results: [&[Sort]; 6] =
-            [&[], &[reference], &[Sort::Number, reference], &[reference, reference], &[view], &[reference, view]];
-        let results = rng.pick(&results).to_vec();
         let locals = [&params[..], &others[..]].concat();
         let of_sort = |sort: Sort| -> Vec<u16> {
             (0..locals.len()).filter(|&local| locals[local] == sort).map(|local| local as u16).collect()
@@ -179,6 +239,7 @@ impl Maze<'_> {
         let mut maze = Maze {
             rng,
             flavour,
+            web: web.to_vec(),
             results: results.clone(),
             numbers: of_sort(Sort::Number),
             refs: of_sort(Sort::NumberRef),
@@ -226,12 +287,13 @@ impl Maze<'_> {
     }
 
     fn blocks(&mut self) {
-        let count = self.rng.within(2, 7);
+        let count = self.rng.within(2, if self.flavour == Flavour::Helpers { 4 } else { 7 });
         let mut begins = Vec::new();
         for number in 0..count {
             // Now and then the first block is a target of its own walks, fillings and all.
             begins.push(if number == 0 && self.rng.chance(30) { 0 } else { self.code.len() });
-            for _ in 0..self.rng.below(if self.flavour == Flavour::Leaks { 6 } else { 4 }) {
+            let many = matches!(self.flavour, Flavour::Leaks | Flavour::Helpers);
+            for _ in 0..self.rng.below(if many { 6 } else { 4 }) {
                 self.item(1);
             }
             self.terminator(number + 1 == count, count);
@@ -292,6 +354,8 @@ impl Maze<'_> {
             (0..=3, Flavour::Locals) => self.number_item(),
             (0..=6, Flavour::Records) => self.coin_item(),
             (0..=4, Flavour::Leaks) => self.borrow_item(),
+            (0..=2, Flavour::Helpers) => self.borrow_item(),
+            (3..=7, Flavour::Helpers) => self.web_item(),
             (7, Flavour::Locals) if !self.coins.is_empty() => self.coin_item(),
             (8..=11, _) => self.borrow_item(),
             (12 | 13, _) => self.hand_on_item(),
@@ -383,6 +447,33 @@ impl Maze<'_> {
             0 => self.put(&[cp(one), call(SINK)]),
             1 => self.put(&[cp(one), call(PASS), st(other)]),
             _ => self.put(&[cp(one), cp(other), call(SINK), pop()]),
+        }
+    }
+
+    /// Calls a procedure of the web with any references and keeps those that come back.
+    fn web_item(&mut self) {
+        let at = self.rng.below(self.web.len());
+        let (number, (params, results)) = self.web[at].clone();
+        for sort in params {
+            let push = match sort {
+                Sort::Number => load(self.rng.below(2) as u64),
+                Sort::NumberRef => cp(self.rng.pick(&self.refs)),
+                Sort::NumberView => cp(self.rng.pick(&self.views)),
+                _ => cp(self.rng.pick(&self.record_refs)),
+            };
+            self.put(&[push]);
+            if matches!(sort, Sort::RecordView(_)) {
+                self.put(&[freeze()]);
+            }
+        }
+        self.put(&[call(number)]);
+        for sort in results.into_iter().rev() {
+            let take = match sort {
+                Sort::NumberRef => st(self.rng.pick(&self.refs)),
+                Sort::NumberView => st(self.rng.pick(&self.views)),
+                _ => pop(),
+            };
+            self.put(&[take]);
         }
     }
 

@@ -7,29 +7,29 @@ use Rattle.flow.proofs.go_on.Statement.{statement}
 use Rattle.flow.proofs.go_on.Tie as tie
 
 -- the number of the node that is followed is small
-small : (c : tie.After-enter-arg) → c .before .before .before .before .before .before .before .before .before .before .before .before .args .width * c .before .before .before .before .before .before .before .before .before .followed .result ≤ 16711425
+small : (c : tie.After-enter-arg) → c .before .before .before .before .before .before .before .before .before .before .before .args .width * c .before .before .before .before .before .before .before .before .followed .result ≤ 16711425
 small c =
-    let a = c .before .before .before .before .before .before .before .before .before .before .before .before .args in
-    let l : c .before .before .before .before .before .before .before .before .before .followed .result < 65536 = rw (c .before .before .before .before .before .before .before .before .before .followed .ensures) (followed-small (a .n) (a .row) (a .i) (a .moves .len) (omega (arith, c .before .before .before .before .before .before .before .before .before .before .before .before .pre)) (search needs) (omega (arith, c .before .before .before .before .before .before .before .before .before .before .before .before .pre))) in
-    node-small (a .width) (c .before .before .before .before .before .before .before .before .before .followed .result) (search needs) l
+    let a = c .before .before .before .before .before .before .before .before .before .before .before .args in
+    let p = c .before .before .before .before .before .before .before .before .before .before .before .pre in
+    let l : c .before .before .before .before .before .before .before .before .followed .result < 65536 = rw (c .before .before .before .before .before .before .before .before .followed .ensures) (followed-small (a .n) (a .row) (a .i) (omega (arith, p)) (search needs) (omega (arith, p))) in
+    node-small (a .width) (c .before .before .before .before .before .before .before .before .followed .result) (search needs) l
 
 mul-enter : tie.Need-mul-enter
 mul-enter c = omega (arith, small c)
 
 add-enter : tie.Need-add-enter
-add-enter c = omega (arith, small c, c .before .before .before .before .before .before .before .before .last .ensures)
+add-enter c = omega (arith, small c)
 
 returns : tie.Need-returns
 returns c =
-    let others = c .before .before .before .before .before .before .before .before .visit-others in
+    let aside = c .before .before .before .before .before .before .before .before .visit-aside in
     let entered = c .before .before .enter .ensures in
-    goes-on _ _ _ _ (c .before .before .before .before .before .before .before .before .before .before .before .before .before .before .before .args .moves) _ _ _ (c .before .before .before .before .before .before .before .before .before .before .before .before .followed .ensures) (c .before .before .before .before .before .before .before .before .before .before .before .last .ensures) (others .ensures) (others .kept .0 ∙ c .before .before .before .before .before .before .before .before .before .before .before .before .before .before .before .pre .0) (entered .0) (entered .1)
+    goes-on _ _ _ _ _ _ _ _ (c .before .before .before .before .before .before .before .before .before .before .before .followed .ensures) (aside .ensures) (aside .kept .0 ∙ c .before .before .before .before .before .before .before .before .before .before .before .before .before .before .pre .0) (entered .0) (entered .1)
 
 pub go-on-spec : {M : Type 1} → statement M
 go-on-spec =
     tie.close
     (tie.spec
-    (λ c κs. search needs)
     (λ c κs. search needs)
     (λ c κs. search needs)
     mul-enter

@@ -9,13 +9,14 @@ use Rattle.laws.proofs.First.{from, fine, faulty, done, whole}
 use Rattle.table.specs.declared.Verdict.the-variants.{Accepted, Refused}
 use Rattle.declarations.specs.Program.{procedureIn, codeVerdict}
 use Rattle.leaks.specs.Leaks.{leakFrom}
+use Rattle.leaks.specs.Read.{markedIn}
 use Rattle.leaks.proofs.Laws.{fault-is}
 use Rattle.leaks.proofs.judge_code.Statement.{statement}
 use Rattle.leaks.proofs.judge_code.Tie as tie
 
 abbrev Inv-loop : tie.InvT-loop
 Inv-loop table code nodes own index n i₀ i =
-    (i ≤ n) × (codeVerdict (leakFrom table index own nodes) (own .code) n ≡ from Accepted (λ (number j : ℕ). Refused number (own .code + j)) (leakFrom table index own nodes) n i)
+    (i ≤ n) × (codeVerdict (leakFrom table index own (markedIn nodes own)) (own .code) n ≡ from Accepted (λ (number j : ℕ). Refused number (own .code + j)) (leakFrom table index own (markedIn nodes own)) n i)
 
 abbrev μ-loop : tie.MeasureT-loop
 μ-loop table code nodes own index n i₀ i = n - i
@@ -32,16 +33,16 @@ callee-is c =
     let e : length l ≡ 128 = sym (length-map l _) ∙ c .before .before .before .before .before .before .before .before .good .1 .1 .1 .1 .0 .1 .1 .1 .1 .1 .1 .1 .0 .1 .0 .1 in
     ⊎-elim (λ w. w .2) (λ w. w .1 ∙ sym (List·getD-eq-default l _ (omega arith))) (c .if1 .came)
 
-fault : (c : tie.After-fault-at Inv-loop μ-loop) → leakFrom (c .before .before .before .before .before .before .before .before .before .args .table .now) (c .before .before .before .before .before .before .before .before .before .args .t5) (c .before .before .before .before .before .before .before .before .before .args .own) (c .before .before .before .before .before .before .before .before .before .args .nodes .now) (c .before .before .before .before .before .loop .i) ≡ c .fault-at .result
-fault c = fault-is (c .before .before .before .before .before .before .before .before .before .args .table .now) (c .before .before .before .before .before .before .before .before .before .args .code .now) (c .before .before .before .before .before .before .before .before .before .args .t5) (c .before .before .before .before .before .before .before .before .before .args .own) (c .before .before .before .before .before .before .before .before .before .args .nodes .now) _ _ _ (c .before .before .before .before .before .before .before .before .before .pre .0) (c .before .before .before .row-at .ensures) (callee-is (c .before)) (c .fault-at .ensures)
+fault : (c : tie.After-fault-at Inv-loop μ-loop) → leakFrom (c .before .before .before .before .before .before .before .before .before .before .args .table .now) (c .before .before .before .before .before .before .before .before .before .before .args .t5) (c .before .before .before .before .before .before .before .before .before .before .args .own) (markedIn (c .before .before .before .before .before .before .before .before .before .before .args .nodes .now) (c .before .before .before .before .before .before .before .before .before .before .args .own)) (c .before .before .before .before .before .before .loop .i) ≡ c .fault-at .result
+fault c = fault-is (c .before .before .before .before .before .before .before .before .before .before .args .table .now) (c .before .before .before .before .before .before .before .before .before .before .args .code .now) (c .before .before .before .before .before .before .before .before .before .before .args .t5) (c .before .before .before .before .before .before .before .before .before .before .args .own) (c .before .before .before .before .before .before .before .before .before .before .args .nodes .now) _ _ _ (c .before .before .before .before .before .before .before .before .before .before .pre .0) (c .before .before .before .before .row-at .ensures) (callee-is (c .before .before)) (c .fault-at .ensures)
 
 returns : tie.Need-returns Inv-loop μ-loop
 returns c =
     let z = fault (c .before .before) in
-    sym (c .before .before .before .before .before .before .before .loop .inv .1 ∙ faulty Accepted (λ (number j : ℕ). Refused number (_ + j)) _ _ _ (omega arith) (λ q. c .before .if2 .taken (sym z ∙ q)) ∙ ap (λ (x : ℕ). Refused x (c .before .before .before .before .before .before .before .before .before .before .before .args .own .code + c .before .before .before .before .before .before .before .loop .i)) z)
+    sym (c .before .before .before .before .before .before .before .before .loop .inv .1 ∙ faulty Accepted (λ (number j : ℕ). Refused number (_ + j)) _ _ _ (omega arith) (λ q. c .before .if2 .taken (sym z ∙ q)) ∙ ap (λ (x : ℕ). Refused x (c .before .before .before .before .before .before .before .before .before .before .before .before .args .own .code + c .before .before .before .before .before .before .before .before .loop .i)) z)
 
 loop-again : tie.Need-loop-again Inv-loop μ-loop
-loop-again c = (omega arith, c .before .before .before .before .before .before .loop .inv .1 ∙ fine Accepted (λ (number j : ℕ). Refused number (_ + j)) _ _ _ (omega arith) (fault (c .before) ∙ c .if2 .left))
+loop-again c = (omega arith, c .before .before .before .before .before .before .before .loop .inv .1 ∙ fine Accepted (λ (number j : ℕ). Refused number (_ + j)) _ _ _ (omega arith) (fault (c .before) ∙ c .if2 .left))
 
 returns-2 : tie.Need-returns-2 Inv-loop μ-loop
 returns-2 c =
@@ -49,4 +50,4 @@ returns-2 c =
     sym (c .before .loop .inv .1 ∙ rw e (done Accepted (λ (number j : ℕ). Refused number (_ + j)) _ _))
 
 pub judge-code-spec : {M : Type 1} → statement M
-judge-code-spec = tie.close (tie.spec Inv-loop μ-loop loop-holds (λ c κs. search needs) (λ c. search needs) (λ c. omega arith) (λ c. search needs) (λ c κs. omega arith) (λ c. search needs) (λ c. search needs) returns (λ c. omega arith) (λ c. omega arith) loop-again returns-2)
+judge-code-spec = tie.close (tie.spec Inv-loop μ-loop loop-holds (λ c κs. search needs) (λ c. search needs) (λ c. omega arith) (λ c. search needs) (λ c. search needs) (λ c. omega arith) (λ c κs. omega arith) (λ c. search needs) (λ c. search needs) returns (λ c. omega arith) (λ c. omega arith) loop-again returns-2)

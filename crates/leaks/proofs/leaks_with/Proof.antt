@@ -1,22 +1,21 @@
-use mathlib.Core.Path.{sym, _∙_}
-use native.Mathlib.Omega.{arith}
+use mathlib.Core.Path.{sym, ap, _∙_}
 use borrow.Author.Needs.{needs}
-use lib.ListN.{length-take}
-use Rattle.declarations.specs.Program.{codePass}
-use Rattle.declarations.proofs.Laws.{passFrom, pass-end}
-use Rattle.leaks.specs.Within.{leakWithin, leaksFrom, leaksWithin}
+use borrow.Author.Tests.{not-true}
+use Rattle.table.specs.declared.index.Index.{Index}
+use Rattle.table.specs.Rows.{rowCount}
+use Rattle.entries.specs.Entries.{makesSome}
+use Rattle.marks.proofs.TieFound.{none-found}
+use Rattle.leaks.proofs.Read.{none-leaks}
 use Rattle.leaks.proofs.leaks_with.Statement.{statement}
 use Rattle.leaks.proofs.leaks_with.Tie as tie
 
+-- where no instruction makes a mark none is found, and none leaks
 returns : tie.Need-returns
-unfolding leaksWithin codePass leaksFrom passFrom
 returns c =
-    let a = c .before .before .before .before .args in
-    sym (c .before .before .first-marking .ensures .1 ∙ pass-end (leakWithin (a .table .now) (a .index)) (a .index) (a .table .now) _ (omega (arith, length-take (a .index .procedures) (a .index .«procedure_entries»), c .if1 .taken)))
-
-returns-2 : tie.Need-returns-2
-unfolding leaksWithin codePass leaksFrom
-returns-2 c = c .leaks-from .ensures ∙ sym (c .before .before .before .first-marking .ensures .1)
+    let t = c .before .before .before .args .table .now in
+    let f = c .before .before .before .pre .0 in
+    let quiet = ap (λ (ix : Index). makesSome t ix (rowCount t)) (sym (c .before .before .before .pre .1)) ∙ sym (c .before .makes-some .ensures) ∙ not-true _ (c .if1 .taken) in
+    sym (none-leaks t f (none-found t f quiet))
 
 pub leaks-with-spec : {M : Type 1} → statement M
-leaks-with-spec = tie.close (tie.spec (λ c κs. search needs) returns (λ c κs. c .before .before .first-marking .ensures .0) returns-2)
+leaks-with-spec = tie.close (tie.spec (λ c κs. search needs) returns (λ c κs. search needs) (λ c. search needs) (λ c κs. search needs) (λ c. search needs))

@@ -2,17 +2,13 @@
 use Prim.Native.Nat.{ℕ, _+_, _-_, _*_, _<_, _≤_}
 use mathlib.Core.Path.{_≡_, refl, sym, ap, _∙_}
 use mathlib.Core.Bool.{false}
-use mathlib.Core.List.{[], _∷_, List·Memᴰ·eq-of-singleton}
 use native.Mathlib.Omega.{arith}
 use borrow.Author.Needs.{needs}
 use lib.ListN.{length, replicate}
 use Rattle.reach.specs.Reach.{countTrue}
 use Rattle.reach.proofs.Laws.{count-le}
 use Rattle.table.specs.Rows.{rowCount}
-use Rattle.flow.specs.Places.{statusAfter}
-use Rattle.flow.specs.Moves.{placesOf}
-use Rattle.locals.specs.Locals.{rowStep}
-use Rattle.locals.proofs.Laws.{Spreading, Waiting, Followed, start-below, after-below, one-place, local-start, local-on, local-still, local-rests, local-tail, local-queued, local-next, local-found}
+use Rattle.locals.proofs.Laws.{Spreading, Waiting, Followed, start-below, after-below, local-start, local-on, local-still, local-rests, local-tail, local-queued, local-next, local-found}
 use Rattle.locals.proofs.spread_local.Statement.{statement}
 use Rattle.locals.proofs.spread_local.Tie as tie
 
@@ -37,30 +33,26 @@ loop-holds c =
 
 -- where the function starts, as seen after the search has gone on from a node
 abbrev start : tie.After-slice-known6 Inv-loop μ-loop → tie.Start Inv-loop μ-loop
-start c = c .before .before .before .before .before .before .before .before .before .before .before .before .before .before .before .before .before .before .before .before .before .before .before
-
--- the place that the local goes to
-place : (c : tie.After-slice-known6 Inv-loop μ-loop) → placesOf (c .before .before .before .before .before .before .before .add .result) ≡ statusAfter (rowStep (c .before .before .before .before .before .before .before .before .before .row-at .result)) (start c .args .l) (c .before .before .before .before .before .before .before .before .before .before .loop .x) ∷ []
-place c = one-place (c .before .before .before .before .before .before .before .add .result) (c .before .before .before .before .before .before .before .add .ensures) (c .before .before .before .before .before .before .before .before .status-after .ensures)
+start c = c .before .before .before .before .before .before .before .before .before .before .before .before .before .before .before .before .before .before .before .before .before .before
 
 -- how the search stands then, and where nothing is followed
-gone : (c : tie.After-slice-known6 Inv-loop μ-loop) → Followed (start c .args .code .now) (start c .args .params) (start c .args .l) (c .before .before .before .before .go-on .last .0) (c .before .before .before .before .go-on .last .1 .0) (c .before .before .before .before .before .before .before .before .before .before .loop .head) (c .before .before .before .before .go-on .result)
+gone : (c : tie.After-slice-known6 Inv-loop μ-loop) → Followed (start c .args .code .now) (start c .args .params) (start c .args .l) (c .before .before .before .before .go-on .last .0) (c .before .before .before .before .go-on .last .1 .0) (c .before .before .before .before .before .before .before .before .before .loop .head) (c .before .before .before .before .before .before .before .status-after .result) (c .before .before .before .before .go-on .result)
 gone c =
-    let inv = c .before .before .before .before .before .before .before .before .before .before .loop .inv in
-    local-on _ _ _ (inv .0) (omega (arith, start c .pre)) (inv .1) (inv .2) (c .before .before .before .before .before .before .before .before .before .row-at .ensures) (place c) (c .before .before .before .before .go-on .ensures)
+    let inv = c .before .before .before .before .before .before .before .before .before .loop .inv in
+    local-on _ _ _ (inv .0) (omega (arith, start c .pre)) (inv .1) (inv .2) (c .before .before .before .before .before .before .before .before .row-at .ensures) (c .before .before .before .before .before .before .before .status-after .ensures) (c .before .before .before .before .go-on .ensures)
 
-rests : (c : tie.After-slice-known6 Inv-loop μ-loop) → c .before .before .before .before .go-on .result .going ≡ false → Waiting (start c .args .code .now) (start c .args .params) (start c .args .l) (c .before .before .before .before .go-on .last .0) (c .before .before .before .before .go-on .last .1 .0) (c .before .before .before .before .before .before .before .before .before .before .loop .head) (c .before .before .before .before .go-on .result .tail)
-rests c e = local-rests _ _ _ _ (gone c) e
+rests : (c : tie.After-slice-known6 Inv-loop μ-loop) → c .before .before .before .before .go-on .result .going ≡ false → Waiting (start c .args .code .now) (start c .args .params) (start c .args .l) (c .before .before .before .before .go-on .last .0) (c .before .before .before .before .go-on .last .1 .0) (c .before .before .before .before .before .before .before .before .before .loop .head) (c .before .before .before .before .go-on .result .tail)
+rests c e = local-rests _ _ _ _ _ (gone c) e
 
 bounded : (c : tie.After-slice-known6 Inv-loop μ-loop) → c .before .before .before .before .go-on .result .going ≡ false → c .before .before .before .before .go-on .result .tail ≤ 2 * rowCount (start c .args .code .now)
 bounded c e = local-tail _ _ _ (rests c e)
 
 -- lengths stay
 size : (c : tie.After-slice-known6 Inv-loop μ-loop) → length (c .before .before .before .before .go-on .last .0) ≡ 2 * rowCount (start c .args .code .now)
-size c = c .before .before .before .before .go-on .kept .0 ∙ c .before .before .before .before .before .before .before .before .before .before .loop .inv .3 ∙ c .before .before .before .before .before .before .before .before .before .before .before .before .before .enter .kept .0 ∙ c .before .before .before .before .before .before .before .before .before .before .before .before .before .before .before .before .before .before .clear .kept .0 ∙ start c .pre .0
+size c = c .before .before .before .before .go-on .kept .0 ∙ c .before .before .before .before .before .before .before .before .before .loop .inv .3 ∙ c .before .before .before .before .before .before .before .before .before .before .before .before .enter .kept .0 ∙ c .before .before .before .before .before .before .before .before .before .before .before .before .before .before .before .before .before .clear .kept .0 ∙ start c .pre .0
 
 room : (c : tie.After-slice-known6 Inv-loop μ-loop) → length (c .before .before .before .before .go-on .last .1 .0) ≡ length (start c .args .queue .now)
-room c = c .before .before .before .before .go-on .kept .1 .0 ∙ c .before .before .before .before .before .before .before .before .before .before .loop .inv .4
+room c = c .before .before .before .before .go-on .kept .1 .0 ∙ c .before .before .before .before .before .before .before .before .before .loop .inv .4
 
 loop-less : tie.Need-loop-less Inv-loop μ-loop
 loop-less c = omega (arith, c .before .before .before .before .before .go-on .ensures .new (c .if1 .taken) .0, count-le (c .before .before .before .before .before .go-on .last .0), size (c .before))
@@ -68,10 +60,10 @@ loop-less c = omega (arith, c .before .before .before .before .before .go-on .en
 loop-again : tie.Need-loop-again Inv-loop μ-loop
 loop-again c =
     let new = c .before .before .before .before .before .go-on .ensures .new (c .if1 .taken) in (
-      local-still _ _ _ _ (gone (c .before)) (c .if1 .taken),
+      local-still _ _ _ _ _ (gone (c .before)) (c .if1 .taken),
       new .1,
-      rw (List·Memᴰ·eq-of-singleton (rw (place (c .before)) at (new .2))) (after-below (c .before .before .before .before .before .before .before .before .before .before .row-at .result) _ _ (c .before .before .before .before .before .before .before .before .before .before .before .loop .inv .2)),
-      c .before .before .before .before .before .go-on .kept .0 ∙ c .before .before .before .before .before .before .before .before .before .before .before .loop .inv .3,
+      rw (c .before .before .before .before .before .before .before .before .status-after .ensures) (after-below (c .before .before .before .before .before .before .before .before .before .row-at .result) _ _ (c .before .before .before .before .before .before .before .before .before .before .loop .inv .2)),
+      c .before .before .before .before .before .go-on .kept .0 ∙ c .before .before .before .before .before .before .before .before .before .before .loop .inv .3,
       room (c .before),
     )
 
@@ -88,7 +80,7 @@ loop-again-2 c =
       local-next _ _ _ state (omega arith),
       omega (arith, local-queued _ _ _ state (omega arith)),
       omega arith,
-      c .before .before .before .before .before .before .before .go-on .kept .0 ∙ c .before .before .before .before .before .before .before .before .before .before .before .before .before .loop .inv .3,
+      c .before .before .before .before .before .before .before .go-on .kept .0 ∙ c .before .before .before .before .before .before .before .before .before .before .before .before .loop .inv .3,
       room (c .before .before .before),
     )
 
@@ -104,17 +96,16 @@ spread-local-spec =
     loop-holds
     (λ c κs. search needs)
     (λ c κs. search needs)
-    (λ c. omega (arith, c .status-after .ensures, after-below (c .before .row-at .result) (c .before .before .before .before .before .before .before .before .before .before .before .before .before .before .before .args .l) (c .before .before .loop .x) (c .before .before .loop .inv .2)))
-    (λ c κs. omega (arith, c .status-after .ensures, after-below (c .before .row-at .result) (c .before .before .before .before .before .before .before .before .before .before .before .before .before .before .before .args .l) (c .before .before .loop .x) (c .before .before .loop .inv .2)))
-    (λ c κs. (c .before .before .before .before .before .loop .inv .3 ∙ c .before .before .before .before .before .before .before .before .enter .kept .0 ∙ c .before .before .before .before .before .before .before .before .before .before .before .before .before .clear .kept .0 ∙ c .before .before .before .before .before .before .before .before .before .before .before .before .before .before .before .before .before .before .pre .0, omega (arith, c .before .before .before .before .before .before .before .before .before .before .before .before .before .before .before .before .before .before .pre), omega (arith, c .before .before .before .before .before .loop .inv .1, c .before .before .before .before .before .before .before .before .before .before .before .before .before .before .before .before .before .before .pre)))
+    (λ c. omega (arith, c .before .before .status-after .ensures, after-below (c .before .before .before .row-at .result) (c .before .before .before .before .before .before .before .before .before .before .before .before .before .before .before .before .before .args .l) (c .before .before .before .before .loop .x) (c .before .before .before .before .loop .inv .2)))
+    (λ c κs. (c .before .before .before .before .loop .inv .3 ∙ c .before .before .before .before .before .before .before .enter .kept .0 ∙ c .before .before .before .before .before .before .before .before .before .before .before .before .clear .kept .0 ∙ c .before .before .before .before .before .before .before .before .before .before .before .before .before .before .before .before .before .pre .0, omega (arith, c .before .before .before .before .before .before .before .before .before .before .before .before .before .before .before .before .before .pre), omega (arith, c .before .before .before .before .loop .inv .1, c .before .before .before .before .before .before .before .before .before .before .before .before .before .before .before .before .before .pre)))
     loop-less
     loop-again
-    (λ c. size (c .before .before) ∙ sym (c .before .before .before .before .before .before .before .before .before .before .before .before .before .before .before .before .before .before .before .before .before .before .before .before .before .pre .0))
+    (λ c. size (c .before .before) ∙ sym (c .before .before .before .before .before .before .before .before .before .before .before .before .before .before .before .before .before .before .before .before .before .before .before .before .pre .0))
     (λ c. room (c .before .before))
     returns
-    (λ c. omega (arith, bounded (c .before .before) (c .before .if1 .left), c .before .before .before .before .before .before .before .before .before .before .before .before .before .before .before .before .before .before .before .before .before .before .before .before .before .pre))
-    (λ c. omega (arith, bounded (c .before .before .before) (c .before .before .if1 .left), room (c .before .before .before), c .before .before .before .before .before .before .before .before .before .before .before .before .before .before .before .before .before .before .before .before .before .before .before .before .before .before .pre))
-    (λ c. omega (arith, c .slice-known7 .given (c .before .before .before .before .before .before .before .before .before .before .before .before .before .loop .head)))
-    (λ c. omega (arith, bounded (c .before .before .before) (c .before .before .if1 .left), c .before .before .before .before .before .before .before .before .before .before .before .before .before .before .before .before .before .before .before .before .before .before .before .before .before .before .pre))
+    (λ c. omega (arith, bounded (c .before .before) (c .before .if1 .left), c .before .before .before .before .before .before .before .before .before .before .before .before .before .before .before .before .before .before .before .before .before .before .before .before .pre))
+    (λ c. omega (arith, bounded (c .before .before .before) (c .before .before .if1 .left), room (c .before .before .before), c .before .before .before .before .before .before .before .before .before .before .before .before .before .before .before .before .before .before .before .before .before .before .before .before .before .pre))
+    (λ c. omega (arith, c .slice-known7 .given (c .before .before .before .before .before .before .before .before .before .before .before .before .loop .head)))
+    (λ c. omega (arith, bounded (c .before .before .before) (c .before .before .if1 .left), c .before .before .before .before .before .before .before .before .before .before .before .before .before .before .before .before .before .before .before .before .before .before .before .before .before .pre))
     loop-less-2
     loop-again-2)

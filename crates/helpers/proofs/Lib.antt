@@ -1,0 +1,10 @@
+pub mod Fits
+pub mod Net
+pub mod Lists
+pub mod Under
+pub mod Smallest
+pub mod Graph
+pub mod Apart
+pub mod Sites
+pub mod Examples
+pub mod Tied

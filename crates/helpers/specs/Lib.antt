@@ -1,0 +1,4 @@
+pub mod Marks
+pub mod Rounds
+pub mod Tables
+pub mod Chains

@@ -1,0 +1,5 @@
+pub mod Sizes
+pub mod Rows
+pub mod Counts
+pub mod Places
+pub mod Inside
