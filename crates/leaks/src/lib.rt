@@ -202,11 +202,16 @@ fn judge_small(table: &[u8], index: Index) -> Verdict
     judge_marks(table, &visited[..end], index)
 }
 
+// The room of the large one is to be no part of the frame of every judgement, so it must not be inlined: for that it has a test of its own, which no table fails that the pass
+// `length` accepts, and `leaks_with` calls it in two places.
 fn judge_large(table: &[u8], index: Index) -> Verdict
     requires { ⌜ Formed (now table) × (index ≡ indexOf (now table)) ⌝ }
     ensures { λ r. ⌜ r ≡ leaksOf (now (table .entry)) ⌝ }
 {
     let n = table.len() / format::ROW_BYTES;
+    if format::MAX_ROWS < n {
+        return Verdict::Refused(refusals::BAD_LENGTH, 0);
+    }
     let mut visited = [false; 65536];
     let mut queue = [0u16; 65536];
     let mut takes = [0u16; 2048];
@@ -242,8 +247,12 @@ pub fn leaks_with(table: &[u8], index: Index) -> Verdict
     if !entries::makes_some(table, index) {
         return Verdict::Accepted(n);
     }
-    if n <= 256 {
-        return judge_small(table, index);
+    // Two calls, so that it is not inlined: see `judge_large`.
+    if 1024 < n {
+        return judge_large(table, index);
     }
-    judge_large(table, index)
+    if 256 < n {
+        return judge_large(table, index);
+    }
+    judge_small(table, index)
 }

@@ -18,4 +18,4 @@ returns c =
     sym (none-leaks t f (none-found t f quiet))
 
 pub leaks-with-spec : {M : Type 1} → statement M
-leaks-with-spec = tie.close (tie.spec (λ c κs. search needs) returns (λ c κs. search needs) (λ c. search needs) (λ c κs. search needs) (λ c. search needs))
+leaks-with-spec = tie.close (tie.spec (λ c κs. search needs) returns (λ c κs. search needs) (λ c. search needs) (λ c κs. search needs) (λ c. search needs) (λ c κs. search needs) (λ c. search needs))
