@@ -42,7 +42,7 @@ extern "C" {
  *
  * Nothing may write the table while the call runs, and buffers lent to one call may not overlap.
  *
- * A call needs 255,200 bytes of stack, whatever the table (measured over made tables of every kind and tables at the limits): 256 KiB are enough.
+ * A call needs 255,300 bytes of stack, whatever the table (measured over made tables of every kind and tables at the limits): 256 KiB are enough.
  *
  * A table of no bytes may be given as any pointer, null too, with length 0: nothing is read through it.
  */
@@ -87,7 +87,7 @@ uint64_t yithrel_judge(const uint8_t *table, size_t table_len);
  *
  * Nothing may write table or list while the call runs, and the buffers lent to one call may not overlap.
  *
- * A call needs 310,400 bytes of stack, whatever the table and the list (measured over made runs and runs at the limits): 320 KiB are enough.
+ * A call needs 310,500 bytes of stack, whatever the table and the list (measured over made runs and runs at the limits): 320 KiB are enough.
  *
  * A table or list of no bytes may be given as any pointer, null too, with length 0.
  */

@@ -17,6 +17,7 @@ use Rattle.effects.specs.Effects.{Effect, effects, effectOf, noEffect}
 use Rattle.operands.specs.Flow.{effectIn}
 use Rattle.flow.specs.Paths.{Regular}
 use Rattle.steps.specs.Steps.{Marking, stepOf, stepAt}
+use Rattle.steps.proofs.Fixed.{countsAt, isFixed, fixed-takes, fixed-gives}
 use Rattle.helpers.specs.Tables.{borrowsGuarded, marksUnder}
 use Rattle.leaks.specs.Leaks.{guardedMarks}
 
@@ -36,20 +37,26 @@ guarded-plain t = plain-under t _
 
 -- the step of a row: what it takes, and what is marked of what it pushes
 module _ (t : List ℕ) (m : Marking) (plain : Plain m) (own : ProcedureEntry) (named : TypeEntry) (callee : ProcedureEntry) (row : Row) where
+  takes : (a : ℕ) → isFixed a ≡ true → row .a ≡ a → length (effectOf t own named callee row number .takes) ≡ countsAt a .takes
+  takes = fixed-takes t own named callee row number
+
+  gives : (a : ℕ) → isFixed a ≡ true → row .a ≡ a → length (effectOf t own named callee row number .gives) ≡ countsAt a .gives
+  gives = fixed-gives t own named callee row number
+
   -- MvLoc
   moving-step : row .a ≡ opMvLoc → (stepOf t m own named callee row .takes ≡ 0) × (stepOf t m own named callee row .fresh ≡ false ∷ [])
-  unfolding stepOf effectOf effects tabulate
-  moving-step e = let one : length (effectOf t own named callee row number .gives) ≡ 1 = rw e in (rw e, rw one (ap (λ (b : Bool). b ∷ []) (plain .moved named row e)))
+  unfolding stepOf tabulate
+  moving-step e = (takes opMvLoc refl e, rw (gives opMvLoc refl e) (ap (λ (b : Bool). b ∷ []) (plain .moved named row e)))
 
   -- CpLoc
   copying-step : row .a ≡ opCpLoc → (stepOf t m own named callee row .takes ≡ 0) × (stepOf t m own named callee row .fresh ≡ false ∷ [])
-  unfolding stepOf effectOf effects tabulate
-  copying-step e = let one : length (effectOf t own named callee row number .gives) ≡ 1 = rw e in (rw e, rw one (ap (λ (b : Bool). b ∷ []) (plain .copied named row e)))
+  unfolding stepOf tabulate
+  copying-step e = (takes opCpLoc refl e, rw (gives opCpLoc refl e) (ap (λ (b : Bool). b ∷ []) (plain .copied named row e)))
 
   -- StLoc
   storing-step : row .a ≡ opStLoc → (stepOf t m own named callee row .takes ≡ 1) × (stepOf t m own named callee row .fresh ≡ [])
-  unfolding stepOf effectOf effects tabulate
-  storing-step e = let none : length (effectOf t own named callee row number .gives) ≡ 0 = rw e in (rw e, rw none)
+  unfolding stepOf tabulate
+  storing-step e = (takes opStLoc refl e, rw (gives opStLoc refl e))
 
 -- MvLoc and CpLoc take nothing and push one operand, StLoc takes one and pushes nothing
 pub regular : (t : List ℕ) (ix : Index) (m : Marking) (p : ProcedureEntry) → Plain m → Regular (stepAt t ix m p)

@@ -1,13 +1,11 @@
 // What the search looks up of each row, in arrays by row number.
 ghost use mathlib.Core.Path.{_≡_};
-ghost use mathlib.Core.Bool.{true, false, cond, _&&_};
+ghost use mathlib.Core.Bool.{true, false, cond};
 ghost use Prim.Native.Nat.{ℕ, _+_, _-_, _≤_, _<_};
-ghost use lib.Dec.{eqb, ltb};
+ghost use lib.Dec.{eqb};
 ghost use lib.ListN.{length, getD, set};
 ghost use Rattle.table.specs.Format.{procedureKind};
 ghost use Rattle.table.specs.Rows.{rowCount};
-ghost use Rattle.table.specs.Index.{indexOf};
-ghost use Rattle.operands.specs.Operands.{namedType};
 ghost use Rattle.helpers.specs.Tables.{isPrivate, isHelper, borrowsGuarded};
 ghost use Rattle.entries.specs.Entries.{kept, sendsTo, calledBy, headEntry, codeEntry, entryBy, Filled, lastAfter, beforeAfter, Linked, makesAt, makesSome};
 use table::Row;

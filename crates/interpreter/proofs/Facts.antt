@@ -1,7 +1,7 @@
 -- What the judge's acceptance gives for the instruction that a state on the way is at.
 use Prim.Native.Nat.{ℕ, suc, _+_, _-_, _/_, _%_, _≤_, _<_}
 use mathlib.Core.Path.{_≡_, refl, ap, sym, _∙_}
-use mathlib.Core.Bool.{cond}
+use mathlib.Core.Bool.{true, cond}
 use mathlib.Core.List.{List, [], _∷_}
 use mathlib.Core.Option.{Option}
 use native.Mathlib.Omega.{arith}
@@ -13,7 +13,9 @@ use Rattle.table.specs.declared.index.ProcedureEntry.{ProcedureEntry}
 use Rattle.table.specs.Index.{indexOf}
 use Rattle.table.specs.Rows.{rowAt}
 use Rattle.declarations.specs.Program.{number, typeIn, procedureIn, fieldCount, localCount, localKind, codeOf, kindsOf, parameterKinds, parametersEnd, resultKinds, parameterCount}
-use Rattle.effects.specs.Effects.{effects, noEffect}
+use Rattle.effects.specs.Effects.{effects, effectOf, noEffect}
+use Rattle.operands.specs.Flow.{effectIn}
+use Rattle.steps.proofs.Fixed.{countsAt, isFixed}
 use Rattle.steps.proofs.Laws.{length-kinds}
 use Rattle.acceptance.specs.Judged.{Judged}
 use Rattle.semantics.specs.Machine.{Value, Cell, Entry, Frame, frame}
@@ -32,7 +34,8 @@ use Rattle.machine.specs.Views.{operandsIn, belowIn, viewOf}
 use Rattle.machine.proofs.Shows.{all-length}
 use Rattle.machine.proofs.Views.{length-down}
 use Rattle.interpreter.specs.Run.{procedureOf, typeOf, rowOf}
-use Rattle.interpreter.proofs.Live.{Live, instr, takes-at, stands, room, kind-low}
+use Rattle.interpreter.proofs.Live as Live
+use Rattle.interpreter.proofs.Live.{Live, instr, takes-at, stands, room, room-fixed, kind-low}
 use Rattle.interpreter.proofs.Frames.{low-gap}
 
 -- the frame of the rules that the running one stands for
@@ -102,16 +105,19 @@ module _ (t : List ℕ) (J : Judged t (indexOf t)) where
     pub taken : takes ≤ s .height
     taken = omega (arith, height, stands t J F)
 
-    -- by opcode: how many it takes, and that there is room for what it pushes
+    -- by opcode: how many it takes, and that there is room for what it pushes, where the counts are fixed
+    pub takes-fixed : (a : ℕ) → isFixed a ≡ true → row .a ≡ a → takes ≡ countsAt a .takes
+    takes-fixed = Live.takes-fixed t J F
+
+    pub pushed-room : (a : ℕ) → isFixed a ≡ true → row .a ≡ a → 0 < countsAt a .gives → s .height - takes < 16
+    pushed-room a f e h = rw height (room-fixed t J F a f e h)
+
+    -- and where they vary
     abbrev listed : ℕ → ℕ
     listed a = length (getD (effects t own (typeIn (indexOf t) (cond (eqb a 8) (row .b / 8) (row .b))) (procedureIn (indexOf t) (row .b)) (row .b) number) a noEffect .takes)
 
-    pub takes-is : (a : ℕ) → row .a ≡ a → takes ≡ listed a
+    takes-is : (a : ℕ) → row .a ≡ a → takes ≡ listed a
     takes-is a e = takes-at t J F a e
-
-    pub pushed-room : (a : ℕ) → row .a ≡ a
-        → 0 < length (getD (effects t own (typeIn (indexOf t) (cond (eqb a 8) (row .b / 8) (row .b))) (procedureIn (indexOf t) (row .b)) (row .b) (instr t J F .flow .top)) a noEffect .gives) → s .height - takes < 16
-    pushed-room a e h = rw height (room t J F a e h)
 
     -- a type that is named has a number below 64
     pub type-low : (a : ℕ) → row .a ≡ a → 9 ≤ a → a ≤ 14 → row .b < 64
@@ -129,6 +135,15 @@ module _ (t : List ℕ) (J : Judged t (indexOf t)) where
     packs e =
         let d = J .declared (row .b) (instr t J F .type-named (rw e (omega arith)) (rw e (omega arith))) in
         (takes-is 9 e ∙ d .fields, omega (arith, takes-is 9 e, d .fields, d .few))
+
+    pub pack-room : row .a ≡ 9 → s .height - takes < 16
+    unfolding effectIn effectOf effects
+    pack-room e = rw height (room t J F (rw e (omega arith)))
+
+    -- Unpack
+    pub unpacks : row .a ≡ 10 → takes ≡ 1
+    unfolding effects
+    unpacks e = takes-is 10 e
 
     -- Call
     abbrev callee : ProcedureEntry

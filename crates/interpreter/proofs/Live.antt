@@ -1,7 +1,7 @@
 -- States on the way of an accepted table: what comes after one, and what holds of the frame that runs.
 use Prim.Native.Nat.{ℕ, _+_, _-_, _/_, _<_, _≤_}
 use mathlib.Core.Path.{_≡_, refl, ap, sym, _∙_}
-use mathlib.Core.Bool.{Bool, false, cond, true≢false}
+use mathlib.Core.Bool.{Bool, true, false, cond, true≢false}
 use mathlib.Core.List.{List, [], _∷_, map}
 use mathlib.Core.Logic.{⊎-elim}
 use mathlib.Core.Option.{Option, none, some}
@@ -15,6 +15,7 @@ use Rattle.table.specs.Rows.{rowAt}
 use Rattle.declarations.specs.Program.{number, isReference, typeIn, procedureIn, localKind, codeOf}
 use Rattle.effects.specs.Effects.{Effect, effects, noEffect}
 use Rattle.operands.specs.Flow.{onto, effectIn}
+use Rattle.steps.proofs.Fixed.{countsAt, isFixed, fixed-takes, fixed-gives}
 use Rattle.locals.specs.Locals.{needsFull}
 use Rattle.leaks.specs.Leaks.{guardedMarks}
 use Rattle.acceptance.proofs.Regular.{guarded-plain, step-takes}
@@ -84,7 +85,11 @@ module _ (t : List ℕ) (judged : Judged t (indexOf t)) where
     pub instr : Instruction t (indexOf t) p i
     instr = judged .instruction p i (F .there) (F .inside)
 
-    -- what its instruction takes and gives, by opcode
+    -- what its instruction takes, by opcode: an entry of the table where that is fixed
+    pub takes-fixed : (a : ℕ) → isFixed a ≡ true → rowAt (codeOf t (procedureIn (indexOf t) p)) i .a ≡ a → takesAt t (indexOf t) p i ≡ countsAt a .takes
+    unfolding takesAt effectIn
+    takes-fixed a f e = fixed-takes t _ _ _ _ number a f e
+
     pub takes-at : (a : ℕ) → rowAt (codeOf t (procedureIn (indexOf t) p)) i .a ≡ a
         → takesAt t (indexOf t) p i
         ≡ length (getD (effects t (procedureIn (indexOf t) p) (typeIn (indexOf t) (cond (eqb a opBorrowFld) (rowAt (codeOf t (procedureIn (indexOf t) p)) i .b / 8) (rowAt (codeOf t (procedureIn (indexOf t) p)) i .b)))
@@ -102,16 +107,13 @@ module _ (t : List ℕ) (judged : Judged t (indexOf t)) where
         let lie = length-onto (effectIn t (indexOf t) own top i .takes) (instr .flow .rest) in
         omega (arith, has-length (F .has), ap length kinds, lie, step-takes t (indexOf t) (guardedMarks t) own top i, step-takes t (indexOf t) (guardedMarks t) own number i)
 
-    -- where it gives an operand there is room for it
-    pub room : (a : ℕ) → rowAt (codeOf t (procedureIn (indexOf t) p)) i .a ≡ a
-        → 0 < length (getD (effects t (procedureIn (indexOf t) p) (typeIn (indexOf t) (cond (eqb a opBorrowFld) (rowAt (codeOf t (procedureIn (indexOf t) p)) i .b / 8) (rowAt (codeOf t (procedureIn (indexOf t) p)) i .b)))
-        (procedureIn (indexOf t) (rowAt (codeOf t (procedureIn (indexOf t) p)) i .b)) (rowAt (codeOf t (procedureIn (indexOf t) p)) i .b) (instr .flow .top)) a noEffect .gives)
-        → length vs - takesAt t (indexOf t) p i < 16
-    room a e h =
-        let top = instr .flow .top in
-        let own = procedureIn (indexOf t) p in
-        let same = ap (λ (x : Effect). length (x .gives)) (effect-at t (indexOf t) own i a top e) in
-        omega (arith, stands, same, length-onto (effectIn t (indexOf t) own top i .gives) (instr .flow .rest), instr .flow .few)
+    -- where it pushes an operand there is room for it
+    pub room : 0 < length (effectIn t (indexOf t) (procedureIn (indexOf t) p) (instr .flow .top) i .gives) → length vs - takesAt t (indexOf t) p i < 16
+    room h = omega (arith, stands, length-onto (effectIn t (indexOf t) (procedureIn (indexOf t) p) (instr .flow .top) i .gives) (instr .flow .rest), instr .flow .few)
+
+    pub room-fixed : (a : ℕ) → isFixed a ≡ true → rowAt (codeOf t (procedureIn (indexOf t) p)) i .a ≡ a → 0 < countsAt a .gives → length vs - takesAt t (indexOf t) p i < 16
+    unfolding effectIn
+    room-fixed a f e h = room (rw (fixed-gives t (procedureIn (indexOf t) p) _ _ (rowAt (codeOf t (procedureIn (indexOf t) p)) i) (instr .flow .top) a f e) h)
 
     -- there are at most 16 operands
     pub low : length vs ≤ 16

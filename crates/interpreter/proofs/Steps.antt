@@ -11,7 +11,6 @@ use Rattle.table.specs.declared.Row.{Row}
 use Rattle.table.specs.declared.index.TypeEntry.{TypeEntry}
 use Rattle.table.specs.declared.index.ProcedureEntry.{ProcedureEntry}
 use Rattle.declarations.specs.Program.{procedureIn, localCount, localKind, parametersEnd}
-use Rattle.effects.specs.Effects.{effects}
 use Rattle.acceptance.specs.Judged.{Judged}
 use Rattle.state.specs.declared.Operand.{Operand}
 use Rattle.state.specs.declared.Operand.the-variants.{Number, Record, Refer}
@@ -42,7 +41,7 @@ use Rattle.interpreter.specs.Run.{procedureOf, typeOf, changesMemory, ro
 use Rattle.interpreter.proofs.Live.{Live, live-step}
 use Rattle.interpreter.proofs.Frames.{live-low}
 use Rattle.interpreter.proofs.Untouched.{Untouched, stays, pushes, moves, copies, stores, reads, borrows, finds, asks, called, returned, branches, operates}
-use Rattle.interpreter.proofs.Facts.{own, row, takes, opcode, own-same, row-same, row-instruction, taken, takes-is, pushed-room, type-low, field-low, named-same, packs, callee-same, calls, returns, return-room, local-low, local-kind}
+use Rattle.interpreter.proofs.Facts.{own, row, takes, opcode, own-same, row-same, row-instruction, taken, takes-fixed, pushed-room, pack-room, unpacks, type-low, field-low, named-same, packs, callee-same, calls, returns, return-room, local-low, local-kind}
 
 -- how many operands there are
 length-back : (xs ys : List Operand) → length (backTo xs ys) ≡ length xs + length ys
@@ -88,9 +87,9 @@ module _ (t : List ℕ) (J : Judged t (indexOf t)) (cs : List Operand) (s : Stat
 
   -- Unpack: what comes after it is on the way
   unpack-room : now .a ≡ 10 → (c m y : ℕ) → topAt cs s 0 ≡ Record c m y → isLive (headIn cs m) c ≡ true → s .height - 1 + secondOf (headIn cs m) ≤ 16
-  unfolding doings effects
+  unfolding doings
   unpack-room e c m y q live =
-      let n : many ≡ 1 = takes-is t J cs s l 10 e in
+      let n : many ≡ 1 = unpacks t J cs s l e in
       let k = secondOf (headIn cs m) in
       let z = rw (step-doing, e, n, top-is cs s, q, room-of cs (h .whole) m c, live) at (live-step t J l) in
       omega (arith, live-low t J z, length-back (upFrom cs (roomCell m + 1) k) (drop 1 (operandsIn cs s)), length-up cs (roomCell m + 1) k, length-drop 1 (operandsIn cs s), length-down cs (operandCell (s .depth)) (s .height))
@@ -106,32 +105,32 @@ module _ (t : List ℕ) (J : Judged t (indexOf t)) (cs : List Operand) (s : Stat
     room a e n r = omega arith
 
     by-opcode : Each (λ (a : ℕ) (turn : Turning). now .a ≡ a → outcomeOf results turn ≡ doing (now .b) (now .d) kind many others cs s a) all
-    unfolding turns effects
+    unfolding turns
     by-opcode =
-        (λ e. let n : many ≡ 1 = takes-is t J cs s l 0 e in rw n (pop-is cs s h results (now .b) (now .d) kind _))
-        ▸ (λ e. let n : many ≡ 0 = takes-is t J cs s l 1 e in rw n (const-is cs s h results (now .b) (now .d) kind _ (room 1 e n (pushed-room t J cs s l 1 e (omega arith)))))
-        ▸ (λ e. let n : many ≡ 0 = takes-is t J cs s l 2 e in rw n (move-is cs s h results (now .b) (now .d) kind _ (room 2 e n (pushed-room t J cs s l 2 e (omega arith)))))
-        ▸ (λ e. let n : many ≡ 0 = takes-is t J cs s l 3 e in rw n (copy-is cs s h results (now .b) (now .d) kind _ (room 3 e n (pushed-room t J cs s l 3 e (omega arith)))))
-        ▸ (λ e. let n : many ≡ 1 = takes-is t J cs s l 4 e in rw n (store-is cs s h results (now .b) (now .d) kind _ (some-taken 4 1 e n)))
-        ▸ (λ e. let n : many ≡ 0 = takes-is t J cs s l 5 e in rw n (borrow-is cs s h results (now .b) (now .d) kind _ (room 5 e n (pushed-room t J cs s l 5 e (omega arith))) (local-low t J cs s l e) (local-kind t J cs s l e)))
-        ▸ (λ e. let n : many ≡ 1 = takes-is t J cs s l 6 e in rw n (read-is cs s h results (now .b) (now .d) kind _))
-        ▸ (λ e. let n : many ≡ 2 = takes-is t J cs s l 7 e in rw n (write-is cs s h results (now .b) (now .d) kind _))
-        ▸ (λ e. let n : many ≡ 1 = takes-is t J cs s l 8 e in rw n (borrow-field-is cs s h results (now .b) (now .d) kind _ (field-low t J cs s l e)))
+        (λ e. let n : many ≡ 1 = takes-fixed t J cs s l 0 refl e in rw n (pop-is cs s h results (now .b) (now .d) kind _))
+        ▸ (λ e. let n : many ≡ 0 = takes-fixed t J cs s l 1 refl e in rw n (const-is cs s h results (now .b) (now .d) kind _ (room 1 e n (pushed-room t J cs s l 1 refl e (omega arith)))))
+        ▸ (λ e. let n : many ≡ 0 = takes-fixed t J cs s l 2 refl e in rw n (move-is cs s h results (now .b) (now .d) kind _ (room 2 e n (pushed-room t J cs s l 2 refl e (omega arith)))))
+        ▸ (λ e. let n : many ≡ 0 = takes-fixed t J cs s l 3 refl e in rw n (copy-is cs s h results (now .b) (now .d) kind _ (room 3 e n (pushed-room t J cs s l 3 refl e (omega arith)))))
+        ▸ (λ e. let n : many ≡ 1 = takes-fixed t J cs s l 4 refl e in rw n (store-is cs s h results (now .b) (now .d) kind _ (some-taken 4 1 e n)))
+        ▸ (λ e. let n : many ≡ 0 = takes-fixed t J cs s l 5 refl e in rw n (borrow-is cs s h results (now .b) (now .d) kind _ (room 5 e n (pushed-room t J cs s l 5 refl e (omega arith))) (local-low t J cs s l e) (local-kind t J cs s l e)))
+        ▸ (λ e. let n : many ≡ 1 = takes-fixed t J cs s l 6 refl e in rw n (read-is cs s h results (now .b) (now .d) kind _))
+        ▸ (λ e. let n : many ≡ 2 = takes-fixed t J cs s l 7 refl e in rw n (write-is cs s h results (now .b) (now .d) kind _))
+        ▸ (λ e. let n : many ≡ 1 = takes-fixed t J cs s l 8 refl e in rw n (borrow-field-is cs s h results (now .b) (now .d) kind _ (field-low t J cs s l e)))
         ▸ (λ e. let p = packs t J cs s l e in
-        rw (named-same t J cs s l e, ← p .0) (pack-is cs s h results many (now .b) (now .d) kind others (taken t J cs s l) (p .1) (pushed-room t J cs s l 9 e (omega arith)) (omega (arith, type-low t J cs s l 9 e (omega arith) (omega arith))) records-few))
-        ▸ (λ e. let n : many ≡ 1 = takes-is t J cs s l 10 e in rw n (unpack-is cs s h results (now .b) (now .d) kind _ (unpack-room e)))
-        ▸ (λ e. let n : many ≡ 2 = takes-is t J cs s l 11 e in rw n (move-to-is cs s h results (now .b) (now .d) kind _ (omega (arith, type-low t J cs s l 11 e (omega arith) (omega arith)))))
-        ▸ (λ e. let n : many ≡ 1 = takes-is t J cs s l 12 e in rw n (move-from-is cs s h results (now .b) (now .d) kind _ (omega (arith, type-low t J cs s l 12 e (omega arith) (omega arith)))))
-        ▸ (λ e. let n : many ≡ 1 = takes-is t J cs s l 13 e in rw n (global-is cs s h results (now .b) (now .d) kind _ (omega (arith, type-low t J cs s l 13 e (omega arith) (omega arith)))))
-        ▸ (λ e. let n : many ≡ 1 = takes-is t J cs s l 14 e in rw n (exists-is cs s h results (now .b) (now .d) kind _ (omega (arith, type-low t J cs s l 14 e (omega arith) (omega arith)))))
+        rw (named-same t J cs s l e, ← p .0) (pack-is cs s h results many (now .b) (now .d) kind others (taken t J cs s l) (p .1) (pack-room t J cs s l e) (omega (arith, type-low t J cs s l 9 e (omega arith) (omega arith))) records-few))
+        ▸ (λ e. let n : many ≡ 1 = unpacks t J cs s l e in rw n (unpack-is cs s h results (now .b) (now .d) kind _ (unpack-room e)))
+        ▸ (λ e. let n : many ≡ 2 = takes-fixed t J cs s l 11 refl e in rw n (move-to-is cs s h results (now .b) (now .d) kind _ (omega (arith, type-low t J cs s l 11 e (omega arith) (omega arith)))))
+        ▸ (λ e. let n : many ≡ 1 = takes-fixed t J cs s l 12 refl e in rw n (move-from-is cs s h results (now .b) (now .d) kind _ (omega (arith, type-low t J cs s l 12 e (omega arith) (omega arith)))))
+        ▸ (λ e. let n : many ≡ 1 = takes-fixed t J cs s l 13 refl e in rw n (global-is cs s h results (now .b) (now .d) kind _ (omega (arith, type-low t J cs s l 13 e (omega arith) (omega arith)))))
+        ▸ (λ e. let n : many ≡ 1 = takes-fixed t J cs s l 14 refl e in rw n (exists-is cs s h results (now .b) (now .d) kind _ (omega (arith, type-low t J cs s l 14 e (omega arith) (omega arith)))))
         ▸ (λ e. let p = calls t J cs s l e in
         rw (callee-same t J cs s l e, ← p .0) (call-is cs s h many (localCount (procedureIn (indexOf t) (now .b))) (taken t J cs s l) (p .1) (p .2) results (now .b) (now .d) kind frames-few))
         ▸ (λ e. let p = returns t J cs s l e in
         rw (← p .0) (ret-is cs s h many (now .b) (now .d) kind others (taken t J cs s l) (λ p. return-room t J cs s l e (s .depth - 1) (omega arith) .0) (λ p. return-room t J cs s l e (s .depth - 1) (omega arith) .1)))
-        ▸ (λ e. let n : many ≡ 0 = takes-is t J cs s l 17 e in rw n (branch-is cs s h results (now .b) (now .d) kind _))
-        ▸ (λ e. let n : many ≡ 1 = takes-is t J cs s l 18 e in rw n (branch-cond-is cs s h results (now .b) (now .d) kind _))
-        ▸ (λ e. let n : many ≡ 2 = takes-is t J cs s l 19 e in rw n (op-is cs s h results (now .b) (now .d) kind _))
-        ▸ (λ e. let n : many ≡ 1 = takes-is t J cs s l 20 e in rw n (freeze-is cs s h results (now .b) (now .d) kind _ (some-taken 20 1 e n)))
+        ▸ (λ e. let n : many ≡ 0 = takes-fixed t J cs s l 17 refl e in rw n (branch-is cs s h results (now .b) (now .d) kind _))
+        ▸ (λ e. let n : many ≡ 1 = takes-fixed t J cs s l 18 refl e in rw n (branch-cond-is cs s h results (now .b) (now .d) kind _))
+        ▸ (λ e. let n : many ≡ 2 = takes-fixed t J cs s l 19 refl e in rw n (op-is cs s h results (now .b) (now .d) kind _))
+        ▸ (λ e. let n : many ≡ 1 = takes-fixed t J cs s l 20 refl e in rw n (freeze-is cs s h results (now .b) (now .d) kind _ (some-taken 20 1 e n)))
         ▸ tt
 
     pub step-is : outcomeOf results (stepAt t (indexOf t) cs s) ≡ mstep t (indexOf t) (viewOf cs s)
@@ -139,19 +138,19 @@ module _ (t : List ℕ) (J : Judged t (indexOf t)) (cs : List Operand) (s : Stat
     step-is = rw (step-turn, step-doing) (each-listed (λ (a : ℕ) (turn : Turning). now .a ≡ a → outcomeOf results turn ≡ doing (now .b) (now .d) kind many others cs s a) all (ends cs s broken) by-opcode (now .a) (opcode t J cs s l) refl)
 
     kept-by-opcode : Each (λ (a : ℕ) (turn : Turning). now .a ≡ a → Kept cs s turn) all
-    unfolding turns effects
+    unfolding turns
     kept-by-opcode =
         (λ e. pop-kept cs s h)
-        ▸ (λ e. let n : many ≡ 0 = takes-is t J cs s l 1 e in const-kept cs s h (now .d) (room 1 e n (pushed-room t J cs s l 1 e (omega arith))))
+        ▸ (λ e. let n : many ≡ 0 = takes-fixed t J cs s l 1 refl e in const-kept cs s h (now .d) (room 1 e n (pushed-room t J cs s l 1 refl e (omega arith))))
         ▸ (λ e. move-kept cs s h (now .b))
-        ▸ (λ e. let n : many ≡ 0 = takes-is t J cs s l 3 e in copy-kept cs s h (now .b) (room 3 e n (pushed-room t J cs s l 3 e (omega arith))))
-        ▸ (λ e. store-kept cs s h (now .b) (some-taken 4 1 e (takes-is t J cs s l 4 e)))
-        ▸ (λ e. let n : many ≡ 0 = takes-is t J cs s l 5 e in borrow-kept cs s h (now .b) kind (room 5 e n (pushed-room t J cs s l 5 e (omega arith))))
+        ▸ (λ e. let n : many ≡ 0 = takes-fixed t J cs s l 3 refl e in copy-kept cs s h (now .b) (room 3 e n (pushed-room t J cs s l 3 refl e (omega arith))))
+        ▸ (λ e. store-kept cs s h (now .b) (some-taken 4 1 e (takes-fixed t J cs s l 4 refl e)))
+        ▸ (λ e. let n : many ≡ 0 = takes-fixed t J cs s l 5 refl e in borrow-kept cs s h (now .b) kind (room 5 e n (pushed-room t J cs s l 5 refl e (omega arith))))
         ▸ (λ e. read-kept cs s h)
         ▸ (λ e. write-kept cs s h)
         ▸ (λ e. borrow-field-kept cs s h (now .b))
         ▸ (λ e. let p = packs t J cs s l e in
-        rw (named-same t J cs s l e, ← p .0) (pack-kept cs s h many (now .b) (taken t J cs s l) (p .1) (pushed-room t J cs s l 9 e (omega arith)) records-few))
+        rw (named-same t J cs s l e, ← p .0) (pack-kept cs s h many (now .b) (taken t J cs s l) (p .1) (pack-room t J cs s l e) records-few))
         ▸ (λ e. unpack-kept cs s h (unpack-room e))
         ▸ (λ e. move-to-kept cs s h (now .b))
         ▸ (λ e. move-from-kept cs s h (now .b))
@@ -171,13 +170,13 @@ module _ (t : List ℕ) (J : Judged t (indexOf t)) (cs : List Operand) (s : Stat
     step-kept = rw step-turn (each-listed (λ (a : ℕ) (turn : Turning). now .a ≡ a → Kept cs s turn) all (ends cs s broken) kept-by-opcode (now .a) (opcode t J cs s l) refl)
 
   untouched-by-opcode : Each (λ (a : ℕ) (turn : Turning). now .a ≡ a → changesMemory a ≡ false → Untouched cs s turn) all
-  unfolding turns changesMemory effects
+  unfolding turns changesMemory
   untouched-by-opcode =
       (λ e c. stays cs s (poppedBy s) refl refl)
       ▸ (λ e c. pushes cs s h (s .height) (Number (now .d)) (h .low))
       ▸ (λ e c. moves cs s h (now .b))
       ▸ (λ e c. copies cs s h (now .b))
-      ▸ (λ e c. stores cs s h (now .b) (some-taken 4 1 e (takes-is t J cs s l 4 e)))
+      ▸ (λ e c. stores cs s h (now .b) (some-taken 4 1 e (takes-fixed t J cs s l 4 refl e)))
       ▸ (λ e c. pushes cs s h (s .height) (Refer (Local (s .serial) (s .depth) (now .b % 256) (localKind t me (now .b) % 65536))) (h .low))
       ▸ (λ e c. reads cs s h)
       ▸ (λ e c. absurd (true≢false c))

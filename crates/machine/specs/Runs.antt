@@ -1,6 +1,6 @@
 -- A call on the machine: its instructions within a budget, and what there is after it.
 use Prim.Native.Nat.{ℕ, zero, suc, _+_, _-_}
-use mathlib.Core.List.{List, []}
+use mathlib.Core.List.{List}
 use mathlib.Core.Option.{Option}
 use lib.ListN.{length, getD}
 use Rattle.table.specs.declared.Row.{Row}

@@ -17,10 +17,11 @@ use Rattle.table.specs.Format.{opBorrowFld, opCall}
 use Rattle.table.specs.Rows.{rowCount, rowAt}
 use Rattle.table.specs.Index.{indexOf}
 use Rattle.declarations.specs.Program.{number}
-use Rattle.effects.specs.Effects.{effects, effectOf}
+use Rattle.effects.specs.Effects.{effectOf}
 use Rattle.operands.specs.Operands.{namedType}
 use Rattle.flow.specs.Places.{nodesAt, nodesOf, freshPlaces, within, markMoves, placeMoves}
 use Rattle.steps.specs.Steps.{stepOf}
+use Rattle.steps.proofs.Fixed.{fixed-gives}
 use Rattle.sizes.specs.Formed.{Formed}
 use Rattle.sizes.proofs.Rows.{own}
 use Rattle.helpers.specs.Marks.{resultOf, stepUnder}
@@ -65,15 +66,10 @@ module _ (t : List ℕ) (p : ProcedureEntry) (named : TypeEntry) (callee : Proce
   unfolding borrowsGuarded
   guards e = eqb-true (row .a) opBorrowFld (and-both (eqb (row .a) opBorrowFld) _ e .0)
 
-  -- BorrowFld pushes one operand
-  borrow-gives : row .a ≡ opBorrowFld → length (effectOf t p named callee row number .gives) ≡ 1
-  unfolding effectOf effects
-  borrow-gives e = rw e refl
-
   -- the places that an instruction marks of itself: the top, by BorrowFld of a guarded field
   own-places : freshPlaces (stepUnder [] (stepOf t (marksUnder t []) p named callee row) .fresh) ≡ cond (borrowsGuarded t named row) (17 ∷ []) []
   unfolding stepUnder stepOf tabulate freshPlaces resultOf
-  own-places = go (eqb (row .a) opCall) (borrowsGuarded t named row) (length (effectOf t p named callee row number .gives)) refl refl (λ k. borrow-gives (guards k))
+  own-places = go (eqb (row .a) opCall) (borrowsGuarded t named row) (length (effectOf t p named callee row number .gives)) refl refl (λ k. fixed-gives t p named callee row number opBorrowFld refl (guards k))
     where
       go : (b g : Bool) (n : ℕ) → eqb (row .a) opCall ≡ b → borrowsGuarded t named row ≡ g → (borrowsGuarded t named row ≡ true → n ≡ 1)
           → freshPlaces

@@ -6,7 +6,7 @@ ghost use Prim.Native.Nat.{ℕ, _+_, _-_, _*_, _≤_, _<_};
 ghost use lib.ListN.{length, getD, replicate};
 ghost use Rattle.reach.specs.Reach.{Mem, Inside, iter, mark};
 ghost use Rattle.reach.specs.Search.{after, visitAll};
-ghost use Rattle.table.specs.Rows.{rowCount, rowAt};
+ghost use Rattle.table.specs.Rows.{rowCount};
 ghost use Rattle.table.specs.Index.{indexOf};
 ghost use Rattle.flow.specs.Places.{nodesOf};
 ghost use Rattle.sizes.specs.Formed.{Formed};

@@ -10,12 +10,13 @@ use Rattle.table.specs.declared.index.Index.{Index}
 use Rattle.table.specs.declared.index.ProcedureEntry.{ProcedureEntry}
 use Rattle.table.specs.Format.{opMvLoc, opCpLoc, opStLoc, opBorrowFld, opCall}
 use Rattle.table.specs.Rows.{rowAt}
-use Rattle.declarations.specs.Program.{typeIn, procedureIn, resultKinds, codeOf}
+use Rattle.declarations.specs.Program.{number, typeIn, procedureIn, resultKinds, codeOf}
 use Rattle.effects.specs.Effects.{effects, noEffect, effectOf}
 use Rattle.operands.specs.Operands.{namedType}
 use Rattle.operands.specs.Flow.{effectIn}
 use Rattle.flow.specs.Walks.{Slot, empty, full, markOf, topMark, localsAfter, pushes}
 use Rattle.steps.specs.Steps.{stepOf, stepAt}
+use Rattle.steps.proofs.Fixed.{fixed-gives}
 use Rattle.helpers.specs.Marks.{resultOf}
 use Rattle.helpers.specs.Tables.{borrowsGuarded, marksIn}
 use Rattle.leaks.specs.Leaks.{guardedMarks}
@@ -57,8 +58,8 @@ module _ (t : List ℕ) (ix : Index) (own : ProcedureEntry) (i : ℕ) where
     -- BorrowFld pushes a mark where the field is guarded
     pub pushes-field : rowAt (codeOf t own) i .a ≡ opBorrowFld
         → pushes (stepAt t ix (guardedMarks t) own i) L O ≡ guardedIn t ix (rowAt (codeOf t own) i .b / 8) (rowAt (codeOf t own) i .b % 8) ∷ []
-    unfolding stepAt stepOf pushes effectOf effects tabulate borrowsGuarded namedType guardedIn
-    pushes-field e = rw e refl
+    unfolding stepAt stepOf pushes tabulate borrowsGuarded namedType guardedIn
+    pushes-field e = rw (fixed-gives t own _ _ (rowAt (codeOf t own) i) number opBorrowFld refl e, e) refl
 
     -- Call pushes marks as those of the results of the procedure that it names
     pub pushes-called : rowAt (codeOf t own) i .a ≡ opCall

@@ -15,6 +15,34 @@ pub struct Counts {
     pub gives: u16,
 }
 
+// An entry that is not read, since its counts vary.
+const VARIES: Counts = Counts { takes: 0, gives: 0 };
+
+// What each opcode takes and pushes. The four that vary, by a type's fields or a procedure's parameters and results, are worked out in `counts_of`.
+const COUNTS: [Counts; format::PAST_OPCODES as usize] = [
+    Counts { takes: 1, gives: 0 }, // 0 Pop
+    Counts { takes: 0, gives: 1 }, // 1 LoadConst
+    Counts { takes: 0, gives: 1 }, // 2 MvLoc
+    Counts { takes: 0, gives: 1 }, // 3 CpLoc
+    Counts { takes: 1, gives: 0 }, // 4 StLoc
+    Counts { takes: 0, gives: 1 }, // 5 BorrowLoc
+    Counts { takes: 1, gives: 1 }, // 6 ReadRef
+    Counts { takes: 2, gives: 0 }, // 7 WriteRef
+    Counts { takes: 1, gives: 1 }, // 8 BorrowFld
+    VARIES, // 9 Pack
+    VARIES, // 10 Unpack
+    Counts { takes: 2, gives: 0 }, // 11 MoveTo
+    Counts { takes: 1, gives: 1 }, // 12 MoveFrom
+    Counts { takes: 1, gives: 1 }, // 13 BorrowGlobal
+    Counts { takes: 1, gives: 1 }, // 14 Exists
+    VARIES, // 15 Call
+    VARIES, // 16 Ret
+    Counts { takes: 0, gives: 0 }, // 17 Branch
+    Counts { takes: 1, gives: 0 }, // 18 BranchCond
+    Counts { takes: 2, gives: 1 }, // 19 Op
+    Counts { takes: 1, gives: 1 }, // 20 Freeze
+];
+
 // How many rows there are from one to before another.
 fn between(from: u32, to: u32) -> u16
     requires { ⌜ to < 65536 ⌝ }
@@ -60,15 +88,6 @@ pub fn counts_of(
 {
     let opcode = row.a;
     match opcode {
-        format::POP => Counts { takes: 1, gives: 0 },
-        format::LOAD_CONST => Counts { takes: 0, gives: 1 },
-        format::MV_LOC => Counts { takes: 0, gives: 1 },
-        format::CP_LOC => Counts { takes: 0, gives: 1 },
-        format::ST_LOC => Counts { takes: 1, gives: 0 },
-        format::BORROW_LOC => Counts { takes: 0, gives: 1 },
-        format::READ_REF => Counts { takes: 1, gives: 1 },
-        format::WRITE_REF => Counts { takes: 2, gives: 0 },
-        format::BORROW_FLD => Counts { takes: 1, gives: 1 },
         format::PACK => Counts {
             takes: fields_of(named),
             gives: 1,
@@ -77,10 +96,6 @@ pub fn counts_of(
             takes: 1,
             gives: fields_of(named),
         },
-        format::MOVE_TO => Counts { takes: 2, gives: 0 },
-        format::MOVE_FROM => Counts { takes: 1, gives: 1 },
-        format::BORROW_GLOBAL => Counts { takes: 1, gives: 1 },
-        format::EXISTS => Counts { takes: 1, gives: 1 },
         format::CALL => Counts {
             takes: parameters_of(table, callee),
             gives: results_of(callee),
@@ -89,10 +104,7 @@ pub fn counts_of(
             takes: results_of(own),
             gives: 0,
         },
-        format::BRANCH => Counts { takes: 0, gives: 0 },
-        format::BRANCH_COND => Counts { takes: 1, gives: 0 },
-        format::OP => Counts { takes: 2, gives: 1 },
-        format::FREEZE => Counts { takes: 1, gives: 1 },
         format::PAST_OPCODES..=255 => Counts { takes: 0, gives: 0 },
+        _ => COUNTS[opcode as usize],
     }
 }
