@@ -4,12 +4,12 @@ use mathlib.Core.Path.{_≡_, refl, sym, ap, _∙_}
 use mathlib.Core.Bool.{Bool, true, false, cond, not, _&&_, _||_, or-true, false≢true}
 use mathlib.Core.List.{List, [], _∷_, _++_}
 use mathlib.Core.Logic.{_⊎_, inl, inr}
-use mathlib.Mathlib.Data.Bool.Basic.{and-eq-true-eq-eq-true-and-eq-true as both}
 use native.Mathlib.Decide.{ℕ-discrete}
 use native.Mathlib.Omega.{arith}
 use borrow.Author.Tests.{eqb-true, eq-eqb, not-true}
 use lib.Dec.{eqb}
 use lib.ListN.{length, length-append}
+use Rattle.laws.proofs.Tests.{and-both}
 use Rattle.table.specs.Format.{opMvLoc, opCpLoc, opStLoc, opBorrowLoc, opCall, opRet}
 use Rattle.table.specs.Rows.{rowCount}
 use Rattle.table.specs.Index.{indexOf}
@@ -66,8 +66,8 @@ after-below ks before after e = rw (e, length-append) (omega arith)
 -- the three tests of a leak
 leaks-three : (op wanted : ℕ) (b c : Bool) → (eqb op wanted && not b && c) ≡ true → (op ≡ wanted) × (b ≡ false) × (c ≡ true)
 leaks-three op wanted b c e =
-    let x = both (eqb op wanted && not b) c .0 e in
-    let y = both (eqb op wanted) (not b) .0 (x .0) in
+    let x = and-both (eqb op wanted && not b) c e in
+    let y = and-both (eqb op wanted) (not b) (x .0) in
     (eqb-true op wanted (y .0), not-true b (y .1), x .1)
 
 -- a test that holds of some number below n: `leavesSome` is such
@@ -107,7 +107,7 @@ module _ (t : List ℕ) (a : UpToOperands t) (q i : ℕ) (there : q < indexOf t 
   -- a record's local that can be full, and some one that can
   record-shown : (l : ℕ) → leavesRecord t (own t q) l i ≡ true → (isRecord (localKind t (own t q) l) ≡ true) × ArrivesFull t q i l
   unfolding leavesRecord
-  record-shown l e = let b = both (isRecord (localKind t (own t q) l)) _ .0 e in (b .0, full-shown t a q there few l i (b .1))
+  record-shown l e = let b = and-both (isRecord (localKind t (own t q) l)) _ e in (b .0, full-shown t a q there few l i (b .1))
 
   record-found : (l : ℕ) → l < localCount (own t q) → isRecord (localKind t (own t q) l) ≡ true → ArrivesFull t q i l → leavesRecord t (own t q) l i ≡ true
   unfolding leavesRecord
@@ -129,9 +129,9 @@ module _ (t : List ℕ) (a : UpToOperands t) (q i : ℕ) (there : q < indexOf t 
     where
       go : (x y z : Bool) → (needsFull (opcode t q i) && leavesEmpty t (own t q) (operand t q i) i) ≡ x → (eqb (opcode t q i) opStLoc && leavesRecord t (own t q) (operand t q i) i) ≡ y
           → (eqb (opcode t q i) opRet && leavesSome t (own t q) (localCount (own t q)) i) ≡ z → (localNumber x y z ≡ 0 → ⊥) → LocalCause t q i (localNumber x y z)
-      go true y z e f g n = let b = both (needsFull (opcode t q i)) _ .0 e in used-empty (needs-three _ (b .0)) (empty-shown t a q there few (operand t q i) i (b .1))
-      go false true z e f g n = let b = both (eqb (opcode t q i) opStLoc) _ .0 f in let r = record-shown _ (b .1) in stored-over (eqb-true _ _ (b .0)) (r .0) (r .1)
-      go false false true e f g n = let b = both (eqb (opcode t q i) opRet) _ .0 g in let s = left-shown (b .1) in let r = record-shown (s .0) (s .2) in left-behind (eqb-true _ _ (b .0)) (s .0) (s .1) (r .0) (r .1)
+      go true y z e f g n = let b = and-both (needsFull (opcode t q i)) _ e in used-empty (needs-three _ (b .0)) (empty-shown t a q there few (operand t q i) i (b .1))
+      go false true z e f g n = let b = and-both (eqb (opcode t q i) opStLoc) _ f in let r = record-shown _ (b .1) in stored-over (eqb-true _ _ (b .0)) (r .0) (r .1)
+      go false false true e f g n = let b = and-both (eqb (opcode t q i) opRet) _ g in let s = left-shown (b .1) in let r = record-shown (s .0) (s .2) in left-behind (eqb-true _ _ (b .0)) (s .0) (s .1) (r .0) (r .1)
       go false false false e f g n = absurd (n refl)
 
   -- what has a cause has a fault, and none is higher

@@ -8,6 +8,7 @@ use native.Mathlib.Omega.{arith}
 use borrow.Author.Tests.{eqb-true, eq-eqb}
 use lib.Dec.{eqb}
 use lib.ListN.{length, getD}
+use Rattle.laws.proofs.Tests.{and-both}
 use Rattle.table.specs.Format.{opCall, maxLocals, maxResults}
 use Rattle.table.specs.Index.{indexOf}
 use Rattle.table.specs.Rows.{rowCount}
@@ -18,7 +19,6 @@ use Rattle.sizes.proofs.Rows.{own}
 use Rattle.sizes.proofs.Inside as Inside
 use Rattle.helpers.specs.Marks.{perProcedure, parameterAt, resultAt, parameterOf, resultOf}
 use Rattle.helpers.specs.Tables.{isPrivate, isHelper, procedureOf, marksIn}
-use Rattle.helpers.proofs.Lists.{and-both}
 use Rattle.helpers.proofs.Tied.{fits}
 use Rattle.helpers.proofs.Under.{sends-inv, to-walk}
 use Rattle.helpers.proofs.Smallest.{each-sent}

@@ -1,7 +1,7 @@
 -- In a guest module of an accepted table no instruction makes a mark: a guarded field stands in a trusted module, and BorrowFld works on a type of its own module.
 use Prim.Native.Nat.{ℕ, zero, suc, _+_, _-_, _/_, _%_, _<_, _≤_}
 use mathlib.Core.Path.{_≡_, refl, sym, _∙_}
-use mathlib.Core.Bool.{Bool, true, false, cond, _&&_, false≢true}
+use mathlib.Core.Bool.{Bool, true, false, cond, false≢true}
 use mathlib.Core.List.{List, []}
 use native.Mathlib.Numerals.{add-one}
 use native.Mathlib.Decide.{decLt}
@@ -11,6 +11,7 @@ use lib.Dec.{eqb}
 use lib.ListN.{getD, List·getD-eq-default}
 use Rattle.laws.specs.Lists.{member, count, nth, entries, tabulate}
 use Rattle.laws.proofs.Lists.{count-zero, count-yes, count-no, entries-at, entryOf-at, entryOf-hit, length-entries, length-tabulate, getD-tabulate}
+use Rattle.laws.proofs.Tests.{and-both}
 use Rattle.table.specs.declared.Row.{Row}
 use Rattle.table.specs.declared.Verdict.the-variants.{Accepted}
 use Rattle.table.specs.declared.index.TypeEntry.{TypeEntry}
@@ -47,15 +48,10 @@ no-owner (suc (suc (suc (suc (suc (suc (suc zero))))))) = refl
 no-owner (suc (suc (suc (suc (suc (suc (suc (suc zero)))))))) = refl
 no-owner (suc (suc (suc (suc (suc (suc (suc (suc (suc k))))))))) = refl
 
--- of two that both hold the second holds
-both-true : (a b : Bool) → (a && b) ≡ true → b ≡ true
-both-true true b e = e
-both-true false b e = absurd (false≢true e)
-
 -- a guarded field has a trusted module above
 guard-trusted : (s : Above) (row : Row) → badGuard s row ≡ false → row .kind ≡ fieldKind → row .c ≡ 1 → s .trusted ≡ true
 unfolding badGuard
-guard-trusted s row e k g = both-true (eqb (row .a) 0) (s .trusted) (not-false _ (rw (k, g) at e))
+guard-trusted s row e k g = and-both (eqb (row .a) 0) (s .trusted) (not-false _ (rw (k, g) at e)) .1
 
 module _ (t : List ℕ) where
   -- the number of modules above the next row
@@ -179,18 +175,10 @@ all-false f n h r = go (decLt r n)
     go (yes l) = getD-tabulate f false n r l ∙ h r
     go (no l) = List·getD-eq-default (tabulate f n) false {n = r} (rw length-tabulate (omega arith))
 
--- two tests that both hold
-both-tests : (a b c d : ℕ) → (eqb a b && eqb c d) ≡ true → (a ≡ b) × (c ≡ d)
-both-tests a b c d e = go (eqb a b) refl e
-  where
-    go : (x : Bool) → eqb a b ≡ x → (x && eqb c d) ≡ true → (a ≡ b) × (c ≡ d)
-    go true q e = (eqb-true a b q, eqb-true c d e)
-    go false q e = absurd (false≢true e)
-
 -- a guarded field is borrowed by BorrowFld, and its C is 1
 guards : (t : List ℕ) (named : TypeEntry) (row : Row) → borrowsGuarded t named row ≡ true → (row .a ≡ opBorrowFld) × (rowAt t (fieldRow named (row .b % 8)) .c ≡ 1)
 unfolding borrowsGuarded
-guards t named row e = both-tests _ _ _ _ e
+guards t named row e = let b = and-both (eqb (row .a) opBorrowFld) _ e in (eqb-true _ _ (b .0), eqb-true _ _ (b .1))
 
 -- Procedure q of a table that the passes accept.
 module _ (t : List ℕ) (q : ℕ) (there : q < indexOf t .procedures) (few : q < 128) (n : ℕ) (byRows : rowsOf t ≡ Accepted n) (byNames : namesOf t ≡ Accepted n)

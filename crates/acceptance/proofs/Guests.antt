@@ -9,6 +9,7 @@ use native.Mathlib.Omega.{arith}
 use borrow.Author.Tests.{eqb-true, not-true}
 use lib.Dec.{eqb}
 use lib.ListN.{getD, List·getD-eq-default}
+use Rattle.laws.proofs.Tests.{and-both}
 use Rattle.table.specs.Format.{opCall, maxLocals, maxResults}
 use Rattle.table.specs.Rows.{rowCount, rowAt}
 use Rattle.table.specs.Index.{indexOf}
@@ -22,7 +23,6 @@ use Rattle.sizes.proofs.Rows.{own}
 use Rattle.sizes.proofs.Inside as Inside
 use Rattle.helpers.specs.Marks.{perProcedure, parameterOf, resultOf}
 use Rattle.helpers.specs.Tables.{isPrivate, isHelper, procedureOf, marksIn}
-use Rattle.helpers.proofs.Lists.{and-both}
 use Rattle.helpers.proofs.Apart.{Apart, given-kept, apart-local, apart-operand}
 use Rattle.helpers.proofs.Tied.{fits}
 use Rattle.leaks.specs.Leaks.{inTrusted}

@@ -7,6 +7,7 @@ use native.Mathlib.Omega.{arith}
 use borrow.Author.Tests.{eqb-true, eq-eqb}
 use lib.Dec.{eqb}
 use lib.ListN.{length, getD, length-append}
+use Rattle.laws.proofs.Tests.{and-both, both-and}
 use Rattle.table.specs.Format.{opCall, opRet}
 use Rattle.table.specs.Index.{indexOf}
 use Rattle.declarations.specs.Program.{codeOf, localCount, parameterCount, parameterKinds, resultKinds, instructionIn}
@@ -20,7 +21,6 @@ use Rattle.sizes.proofs.Inside as Inside
 use Rattle.helpers.specs.Marks.{parameterOf, resultOf, stepUnder, WalkUnder as WalkIn, Closed as ClosedIn}
 use Rattle.helpers.specs.Tables.{isHelper, marksUnder, procedureOf, marksIn}
 use Rattle.helpers.proofs.Fits.{Walkable}
-use Rattle.helpers.proofs.Lists.{and-both, both-and}
 use Rattle.helpers.proofs.Smallest.{smallest as smallest-in}
 use Rattle.helpers.proofs.Tied.{steps-tied, parameters-length, results-length, call-counts, ret-counts, fits}
 use Rattle.judging.specs.Judging.{UpToOperands}

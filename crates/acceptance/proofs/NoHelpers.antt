@@ -5,6 +5,7 @@ use mathlib.Core.Bool.{Bool, false, cond, false≢true}
 use mathlib.Core.List.{List, []}
 use lib.Dec.{eqb}
 use lib.ListN.{getD}
+use Rattle.laws.proofs.Tests.{and-both}
 use Rattle.table.specs.Format.{opCall}
 use Rattle.table.specs.Index.{indexOf}
 use Rattle.table.specs.Rows.{rowCount}
@@ -18,7 +19,6 @@ use Rattle.steps.specs.Steps.{Marking, stepOf, stepAt}
 use Rattle.sizes.proofs.Rows.{own}
 use Rattle.helpers.specs.Marks.{parameterAt, resultAt, parameterOf, resultOf}
 use Rattle.helpers.specs.Tables.{borrowsGuarded, isPrivate, isHelper, marksUnder, procedureOf, marksIn}
-use Rattle.helpers.proofs.Lists.{and-both}
 use Rattle.helpers.proofs.Tied.{fits}
 use Rattle.leaks.specs.Leaks.{leaksOf}
 use Rattle.judging.specs.Judging.{UpToOperands}

@@ -4,7 +4,6 @@ use mathlib.Core.Path.{_≡_, refl, sym, ap, _∙_}
 use mathlib.Core.Bool.{Bool, true, false, cond, not, _&&_, _||_, or-true, or-false, Bool·beq, false≢true}
 use mathlib.Core.List.{List, []}
 use mathlib.Core.Logic.{_↔_, _⊎_, inl, inr}
-use mathlib.Mathlib.Data.Bool.Basic.{and-eq-true-eq-eq-true-and-eq-true as both}
 use native.Mathlib.Decide.{decLt}
 use native.Mathlib.Omega.{arith}
 use borrow.Author.Tests.{eqb-true, eqb-false, ne-eqb, ltb-true, lt-ltb, le-ltb, leb-true, le-leb, not-true}
@@ -15,6 +14,7 @@ use Rattle.laws.specs.Numbers.{le}
 use Rattle.laws.proofs.Cases.{below-each, _▸_}
 use Rattle.laws.proofs.Lists.{one-of-two}
 use Rattle.laws.proofs.Numbers.{byte-shown, byte-found}
+use Rattle.laws.proofs.Tests.{and-both}
 use Rattle.table.specs.declared.Row.{Row}
 use Rattle.table.specs.Format.{rowBytes, moduleKind, fieldKind, procedureKind, localKind, instructionKind, numberSort, pastSorts, opOp, pastOpcodes, pastOps}
 use Rattle.table.specs.Rows.{rowCount, rowAt, rowFrom, kindAt}
@@ -212,7 +212,7 @@ module _ (t : List ℕ) (i : ℕ) (inside : i < rowCount t) where
   -- a part of `width` bytes from byte `from` on
   part-shown : (used : Bool) (from width x : ℕ) → x ≡ le t (rowBytes * i + from) width → ((k : ℕ) → k < width → getD bytes (from + k) true ≡ used) → isDirty used x ≡ true → DirtyByte t i
   part-shown used from width x is same e =
-      let h = both (not used) _ .0 e in
+      let h = and-both (not used) _ e in
       let b = byte-shown t (rowBytes * i + from) width (λ z. eqb-false _ _ (not-true _ (h .1)) (is ∙ z)) in
       let s : rowBytes * i + from + b .0 ≡ rowBytes * i + (from + b .0) = omega arith in
       (from + b .0, same (b .0) (b .1) ∙ not-true _ (h .0), rw s at (b .2))
@@ -312,12 +312,12 @@ module _ (t : List ℕ) (i : ℕ) (inside : i < rowCount t) where
     where
       go : (wrongA ≡ true) ⊎ (wrongC ≡ true) ⊎ (lateParameter state here ≡ true) ⊎ (badOp here ≡ true) → RowCause t i wrongValue
       go (inl e) = wrong-a e
-      go (inr (inl e)) = let h = both (usedC (here .kind)) _ .0 e in wrong-c (one-of-two fieldKind localKind (here .kind) (h .0)) (ltb-true _ _ (h .1))
+      go (inr (inl e)) = let h = and-both (usedC (here .kind)) _ e in wrong-c (one-of-two fieldKind localKind (here .kind) (h .0)) (ltb-true _ _ (h .1))
       go (inr (inr (inl e))) =
-          let h = both (eqb (here .kind) localKind && isParameter here) (state .other) .0 e in let g = both (eqb (here .kind) localKind) (isParameter here) .0 (h .0) in
+          let h = and-both (eqb (here .kind) localKind && isParameter here) (state .other) e in let g = and-both (eqb (here .kind) localKind) (isParameter here) (h .0) in
           late (eqb-true _ _ (g .0)) (g .1) (other-if t i .0 (h .1))
       go (inr (inr (inr e))) =
-          let h = both (eqb (here .kind) instructionKind && eqb (here .a) opOp) (leb pastOps (here .b)) .0 e in let g = both (eqb (here .kind) instructionKind) (eqb (here .a) opOp) .0 (h .0) in
+          let h = and-both (eqb (here .kind) instructionKind && eqb (here .a) opOp) (leb pastOps (here .b)) e in let g = and-both (eqb (here .kind) instructionKind) (eqb (here .a) opOp) (h .0) in
           wrong-op (eqb-true _ _ (g .0)) (eqb-true _ _ (g .1)) (leb-true _ _ (h .1))
 
   a-found : overA (here .kind) (here .a) ≡ true → badValue state here ≡ true
@@ -338,7 +338,7 @@ module _ (t : List ℕ) (i : ℕ) (inside : i < rowCount t) where
   guard-shown : badGuard state here ≡ true → RowCause t i wrongGuard
   unfolding badGuard
   guard-shown e =
-      let h = both (eqb (here .kind) fieldKind && isGuarded here) _ .0 e in let g = both (eqb (here .kind) fieldKind) (isGuarded here) .0 (h .0) in
+      let h = and-both (eqb (here .kind) fieldKind && isGuarded here) _ e in let g = and-both (eqb (here .kind) fieldKind) (isGuarded here) (h .0) in
       go (eqb (here .a) numberSort) refl (state .trusted) refl (not-true _ (h .1)) (eqb-true _ _ (g .0)) (g .1)
     where
       go : (a : Bool) → eqb (here .a) numberSort ≡ a → (b : Bool) → state .trusted ≡ b → (a && b) ≡ false → here .kind ≡ fieldKind → isGuarded here ≡ true → RowCause t i wrongGuard

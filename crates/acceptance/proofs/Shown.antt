@@ -3,13 +3,13 @@ use Prim.Native.Nat.{ℕ, zero, suc, _<_, _≤_}
 use mathlib.Core.Path.{_≡_, refl, sym, ap, _∙_}
 use mathlib.Core.Bool.{Bool, true, false, _||_, false≢true}
 use mathlib.Core.List.{List}
-use mathlib.Mathlib.Data.Bool.Basic.{and-eq-true-eq-eq-true-and-eq-true as both}
 use native.Mathlib.Numerals.{add-one}
 use native.Mathlib.Decide.{decLt}
 use native.Mathlib.Omega.{arith}
 use borrow.Author.Tests.{eqb-true, lt-ltb, ltb-true}
 use lib.Dec.{eqb, ltb}
 use lib.ListN.{length, getD, List·getD-eq-default}
+use Rattle.laws.proofs.Tests.{and-both}
 use Rattle.table.specs.Format.{opMvLoc, opCpLoc, opStLoc, opBorrowLoc, opCall, opRet}
 use Rattle.table.specs.Rows.{rowCount}
 use Rattle.table.specs.Index.{indexOf}
@@ -112,7 +112,7 @@ module _ (t : List ℕ) (a : UpToOperands t) (q : ℕ) (there : q < indexOf t .p
     pub empty-shown : leavesEmpty t (own t q) l i ≡ true → ArrivesEmpty t q i l
     unfolding leavesEmpty
     empty-shown e =
-        let b = both (ltb l (localCount (own t q))) _ .0 e in
+        let b = and-both (ltb l (localCount (own t q))) _ e in
         let r = locals.empty-shown (nexts (codeOf t (own t q))) (stepIn t q) (startsIn t q)
         (parameterCount t (own t q)) (localCount (own t q)) l (ltb-true l _ (b .0)) (rowCount (codeOf t (own t q))) some (nextBelow (codeOf t (own t q))) i (rw nodes-same at (b .1)) in
         (r .0, r .2, r .3, r .4, r .5)
@@ -120,7 +120,7 @@ module _ (t : List ℕ) (a : UpToOperands t) (q : ℕ) (there : q < indexOf t .p
     pub full-shown : leavesFull t (own t q) l i ≡ true → ArrivesFull t q i l
     unfolding leavesFull
     full-shown e =
-        let b = both (ltb l (localCount (own t q))) _ .0 e in
+        let b = and-both (ltb l (localCount (own t q))) _ e in
         let r = locals.full-shown (nexts (codeOf t (own t q))) (stepIn t q) (startsIn t q)
         (parameterCount t (own t q)) (localCount (own t q)) l (ltb-true l _ (b .0)) (rowCount (codeOf t (own t q))) some (nextBelow (codeOf t (own t q))) i (rw nodes-same at (b .1)) in
         (r .0, r .2, r .3, r .4, r .5, r .6)

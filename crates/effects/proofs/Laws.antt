@@ -1,16 +1,17 @@
 -- Laws of the kinds of the operands present: what the code's stack stands for, rows of kinds, and the effects by opcode.
 use Prim.Native.Nat.{ℕ, zero, suc, _+_, _-_, _%_, _<_, _≤_, min}
 use mathlib.Core.Path.{_≡_, refl, ap, sym, _∙_}
-use mathlib.Core.Bool.{Bool, true, false, cond, not, _&&_, false≢true}
+use mathlib.Core.Bool.{Bool, true, false, cond, not, _&&_}
 use mathlib.Core.List.{List, [], _∷_}
 use native.Mathlib.Decide.{decLt, ℕ-discrete}
 use native.Mathlib.Omega.{arith}
 use native.Mathlib.Numerals.{add-one}
 use borrow.Author.Tests.{eq-eqb, ne-eqb, le-ltb, leb-true}
-use lib.Dec.{eqb, ltb, leb}
+use lib.Dec.{eqb, ltb}
 use lib.ListN.{length, getD, set, List·getD-eq-default}
 use lib.Seq.{getD-set-same, getD-set-other}
 use Rattle.laws.specs.Lists.{none}
+use Rattle.laws.proofs.Tests.{and-both}
 use Rattle.table.specs.declared.Row.{Row}
 use Rattle.table.specs.declared.index.TypeEntry.{TypeEntry}
 use Rattle.table.specs.declared.index.ProcedureEntry.{ProcedureEntry}
@@ -37,11 +38,7 @@ two-more x y h = ne-eqb x (y + 2) (λ e. omega arith)
 -- a kind that can be written through leaves room for the read-only one
 pub not-last : (k : ℕ) → isWritable k ≡ true → k % 8 ≤ 3
 unfolding isWritable
-not-last k e = go (isReference k) e
-  where
-    go : (a : Bool) → (a && leb (k % 8) 3) ≡ true → k % 8 ≤ 3
-    go true e = leb-true (k % 8) 3 e
-    go false e = absurd (false≢true e)
+not-last k e = leb-true (k % 8) 3 (and-both (isReference k) _ e .1)
 
 suc-pred : (n : ℕ) → suc n - 1 ≡ n
 suc-pred n = omega arith

@@ -2,7 +2,6 @@
 use Prim.Native.Nat.{ℕ, _+_, _-_, _<_, _≤_}
 use mathlib.Core.Path.{_≡_, refl, sym, _∙_}
 use mathlib.Core.Bool.{Bool, true, false, cond, false≢true}
-use mathlib.Mathlib.Data.Bool.Basic.{and-eq-true-eq-eq-true-and-eq-true as both}
 use mathlib.Core.List.{List}
 use native.Mathlib.Decide.{ℕ-discrete}
 use native.Mathlib.Numerals.{add-one}
@@ -11,6 +10,7 @@ use borrow.Author.Tests.{ltb-true, leb-true, lt-ltb, le-leb, eq-eqb, ne-eqb}
 use lib.Dec.{ltb, leb}
 use lib.ListN.{length, getD, set, length-set}
 use lib.Seq.{getD-set-same, getD-set-other}
+use Rattle.laws.proofs.Tests.{and-both}
 use Rattle.entries.specs.Entries.{lastCall, isLink, lastAfter, beforeAfter, Linked}
 
 is-link : (last : List ℕ) (c : ℕ) → 0 < c → c ≤ length last → isLink last c ≡ true
@@ -19,7 +19,7 @@ is-link last c h g = rw (lt-ltb 0 c h, le-leb c (length last) g) refl
 
 link-is : (last : List ℕ) (c : ℕ) → isLink last c ≡ true → (0 < c) × (c ≤ length last)
 unfolding isLink
-link-is last c e = let a = both (ltb 0 c) (leb c (length last)) .0 e in (ltb-true 0 c (a .0), leb-true c (length last) (a .1))
+link-is last c e = let a = and-both (ltb 0 c) (leb c (length last)) e in (ltb-true 0 c (a .0), leb-true c (length last) (a .1))
 
 -- the first n rows are linked, and each link leads to a row before
 pub record Linking (calls last before : List ℕ) (n : ℕ) : Type 0 where

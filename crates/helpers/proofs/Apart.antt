@@ -9,6 +9,7 @@ use borrow.Author.Tests.{eqb-true, not-true}
 use lib.ListN.{length, getD}
 use Rattle.laws.specs.Lists.{tabulate}
 use Rattle.laws.proofs.Lists.{length-tabulate, getD-tabulate}
+use Rattle.laws.proofs.Tests.{and-both, both-and}
 use Rattle.table.specs.Format.{opCall}
 use Rattle.reach.specs.Reach.{At}
 use Rattle.reach.proofs.Laws.{at-below}
@@ -20,7 +21,6 @@ use Rattle.flow.proofs.Marks.{inLocal, onOperand}
 use Rattle.helpers.specs.Marks.{Procedure, perProcedure, parameterOf, resultOf, stepUnder, WalkUnder, Below}
 use Rattle.helpers.specs.Rounds.{givenOf}
 use Rattle.helpers.proofs.Fits.{Fits, Walkable}
-use Rattle.helpers.proofs.Lists.{and-both, both-and}
 use Rattle.helpers.proofs.Under.{length-fresh, fresh-under, bare-inv, start-inv, PathUnder, Sent, path-mono, path-below, to-path, sends-inv, sends-below}
 use Rattle.helpers.proofs.Smallest.{smallest-sent}
 

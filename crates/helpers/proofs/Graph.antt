@@ -10,6 +10,7 @@ use borrow.Author.Tests.{eqb-true, ltb-true, ltb-false, lt-ltb, le-ltb, eq-eqb}
 use lib.Dec.{eqb, ltb}
 use lib.ListN.{length, getD, replicate, length-replicate}
 use Rattle.laws.proofs.Lists.{length-tabulate, getD-tabulate}
+use Rattle.laws.proofs.Tests.{and-both, both-and}
 use Rattle.reach.specs.Reach.{Mem, here, there, At, Inside, Walk, start, step, mark, push, sweep, rounds}
 use Rattle.reach.proofs.Laws.{at-below, none-at, length-mark, mark-new, mark-inv, stays, length-iter, sound, complete}
 use Rattle.table.specs.Format.{opCall}
@@ -20,7 +21,7 @@ use Rattle.helpers.specs.Marks.{Procedure, perProcedure, resultAt, param
 use Rattle.helpers.specs.Rounds.{upTo, sends, nodesUnder, givenOf}
 use Rattle.helpers.proofs.Fits.{Fits}
 use Rattle.helpers.proofs.Net.{Spot, heads, codes, blank, Layout, perRow, Placed, markNode, markNodesOf, callsAt, after, follow, follows, entryOf, entries, arrived, inside, pushedAt, resultTo, edges, graph, sourceOf, sources, sourceSet, found, readOff}
-use Rattle.helpers.proofs.Lists.{cond-mem, cond-inv, and-both, both-and, upTo-mem, upTo-inv, rows-inv, rows-mem, lower-mem, lower-inv}
+use Rattle.helpers.proofs.Lists.{cond-mem, cond-inv, upTo-mem, upTo-inv, rows-inv, rows-mem, lower-mem, lower-inv}
 use Rattle.helpers.proofs.Under.{length-fresh, call-fresh, own-fresh, fresh-under, moves-same, bare-inv, bare-mem, bare-stays, moves-mono, start-bare, start-inv, start-mem, places-small, PathUnder, Sent, path-below, path-small, sends-below, node-shown, node-found}
 use Rattle.helpers.proofs.Smallest.{only-sent}
 

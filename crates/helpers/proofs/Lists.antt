@@ -2,7 +2,7 @@
 use Prim.Native.Nat.{ℕ, zero, suc, _+_, _-_, _<_}
 use mathlib.Core.Path.{_≡_, refl, ap}
 use mathlib.Core.List.{List, [], _∷_, _++_, List·Memᴰ·append-cases, Memᴰ·append-left, Memᴰ·append-right, List·Memᴰ·not-nil, List·Memᴰ·cases-cons}
-use mathlib.Core.Bool.{Bool, true, false, cond, false≢true, _&&_}
+use mathlib.Core.Bool.{Bool, true, false, cond}
 use mathlib.Core.Logic.{_⊎_, inl, inr, ⊎-elim}
 use native.Mathlib.Decide.{ℕ-discrete}
 use native.Mathlib.Omega.{arith}
@@ -21,13 +21,6 @@ cond-mem e m = rw e m
 pub cond-inv : {A : Type 0} {x : A} {xs : List A} (b : Bool) → Mem x (cond b xs []) → (b ≡ true) × Mem x xs
 cond-inv true m = (refl, m)
 cond-inv false m = absurd (List·Memᴰ·not-nil m)
-
-pub and-both : (a b : Bool) → a && b ≡ true → (a ≡ true) × (b ≡ true)
-and-both true b e = (refl, e)
-and-both false b e = absurd (false≢true e)
-
-pub both-and : {a b : Bool} → a ≡ true → b ≡ true → a && b ≡ true
-both-and p q = rw p q
 
 pub upTo-mem : {A : Type 0} {x : A} (f : ℕ → List A) (n i : ℕ) → i < n → Mem x (f i) → Mem x (upTo f n)
 unfolding upTo

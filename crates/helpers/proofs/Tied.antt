@@ -10,6 +10,7 @@ use lib.Dec.{eqb}
 use lib.ListN.{length, getD}
 use Rattle.laws.specs.Lists.{tabulate, count}
 use Rattle.laws.proofs.Lists.{length-tabulate}
+use Rattle.laws.proofs.Tests.{and-both}
 use Rattle.table.specs.declared.Row.{Row}
 use Rattle.table.specs.declared.index.TypeEntry.{TypeEntry}
 use Rattle.table.specs.declared.index.ProcedureEntry.{ProcedureEntry}
@@ -106,11 +107,6 @@ module _ (t : List ℕ) (q i : ℕ) where
       let row = rowAt (codeOf t (own t q)) i in
       ret-takes t (own t q) (namedType (indexOf t) row) (own t (row .b)) row e ∙ results-length t (own t q)
 
--- of two that both hold the first holds
-first-true : (a b : Bool) → (a && b) ≡ true → a ≡ true
-first-true true b e = refl
-first-true false b e = absurd (false≢true e)
-
 -- Where procedures stand.
 
 -- what a row is, by its kind and the number of procedures above it
@@ -200,7 +196,7 @@ module _ (t : List ℕ) (f : Formed t) where
         let c = Inside.called t f q h i e in
         (c, omega (arith, call-counts t q i e .1, Inside.results-few t f (rowAt (codeOf t (own t q)) i .b) c));
     helped = λ q h i e.
-        let o = eqb-true (rowAt (codeOf t (own t q)) i .a) opCall (first-true _ _ e) in
+        let o = eqb-true (rowAt (codeOf t (own t q)) i .a) opCall (and-both _ _ e .0) in
         let c = Inside.called t f q h i o in
         let callee = own t (rowAt (codeOf t (own t q)) i .b) in
         (o, omega (arith, call-counts t q i o .0, Inside.parameters-fit t callee, Inside.locals-few t f (rowAt (codeOf t (own t q)) i .b) c));

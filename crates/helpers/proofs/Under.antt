@@ -11,6 +11,7 @@ use lib.Dec.{eqb, ltb}
 use lib.ListN.{length, getD}
 use Rattle.laws.specs.Lists.{tabulate}
 use Rattle.laws.proofs.Lists.{length-tabulate, getD-tabulate}
+use Rattle.laws.proofs.Tests.{and-both}
 use Rattle.table.specs.Format.{opMvLoc, opCpLoc, opStLoc, opCall, opRet}
 use Rattle.reach.specs.Reach.{Mem, here, there, At}
 use Rattle.reach.proofs.Laws.{at-below}
@@ -25,7 +26,7 @@ use Rattle.steps.specs.Steps.{noStep}
 use Rattle.helpers.specs.Marks.{Procedure, perProcedure, parameterAt, resultAt, parameterOf, resultOf, stepUnder, WalkUnder, Closed, Below}
 use Rattle.helpers.specs.Rounds.{sends, nodesUnder}
 use Rattle.helpers.proofs.Fits.{Fits, Walkable}
-use Rattle.helpers.proofs.Lists.{cond-inv, and-both, pass, pass-inv, within-inv, within-mem, fresh-mem, fresh-inv}
+use Rattle.helpers.proofs.Lists.{cond-inv, pass, pass-inv, within-inv, within-mem, fresh-mem, fresh-inv}
 
 -- Instructions under marks.
 

@@ -3,3 +3,4 @@ pub mod Lists
 pub mod Numbers
 pub mod Cases
 pub mod Sorting
+pub mod Tests

@@ -1,11 +1,12 @@
 -- The code's second search finds what marks come to under the smallest marks.
 use Prim.Native.Nat.{ℕ, zero, suc, _*_, _/_, _%_, _<_}
-use mathlib.Core.Path.{_≡_, refl, ap, sym, _∙_}
-use mathlib.Core.Bool.{Bool, true, false, false≢true, _||_}
+use mathlib.Core.Path.{_≡_, refl, ap, _∙_}
+use mathlib.Core.Bool.{Bool, false}
 use mathlib.Core.List.{List, []}
 use native.Mathlib.Decide.{ℕ-discrete}
 use native.Mathlib.Omega.{arith}
 use lib.ListN.{length, getD, replicate}
+use Rattle.laws.proofs.Tests.{neither}
 use Rattle.reach.specs.Reach.{Inside, iter, mark}
 use Rattle.table.specs.Rows.{rowCount, rowAt}
 use Rattle.table.specs.Index.{indexOf}
@@ -25,11 +26,6 @@ use Rattle.marks.proofs.TieArrivals.{search-same}
 use Rattle.marks.proofs.TieMade.{cond-same, own-inside, made-tied}
 use Rattle.marks.proofs.TieCode.{code-tied}
 use Rattle.marks.proofs.TieHeads.{head-tied}
-
--- of two one of which may hold neither holds
-neither : (a b : Bool) → (a || b) ≡ false → (a ≡ false) × (b ≡ false)
-neither true b e = absurd (false≢true (sym e))
-neither false b e = (refl, e)
 
 upTo-none : {A : Type 0} (g : ℕ → List A) (n : ℕ) → ((r : ℕ) → r < n → g r ≡ []) → upTo g n ≡ []
 unfolding upTo

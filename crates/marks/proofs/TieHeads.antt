@@ -7,6 +7,7 @@ use native.Mathlib.Omega.{arith}
 use borrow.Author.Tests.{eqb-true, eqb-false, ltb-false, eq-eqb, ne-eqb}
 use lib.Dec.{eqb, ltb}
 use lib.ListN.{length, getD}
+use Rattle.laws.proofs.Tests.{and-both}
 use Rattle.table.specs.Format.{opCall}
 use Rattle.table.specs.Rows.{rowCount, rowAt}
 use Rattle.table.specs.Index.{indexOf}
@@ -18,7 +19,6 @@ use Rattle.helpers.specs.Rounds.{upTo}
 use Rattle.helpers.specs.Chains.{along}
 use Rattle.helpers.specs.Tables.{procedureOf}
 use Rattle.helpers.proofs.Net as Net
-use Rattle.helpers.proofs.Lists.{and-both}
 use Rattle.helpers.proofs.Sites.{lastSite, sites, result-edges}
 use Rattle.helpers.proofs.Tied.{layoutOf, call-counts}
 use Rattle.entries.specs.Entries.{kept, calledBy, lastCall, Filled, Linked}

@@ -9,6 +9,7 @@ use lib.Dec.{eqb}
 use lib.ListN.{length, getD}
 use Rattle.laws.specs.Lists.{tabulate}
 use Rattle.laws.proofs.Lists.{length-tabulate, getD-tabulate}
+use Rattle.laws.proofs.Tests.{and-both}
 use Rattle.reach.specs.Reach.{Mem}
 use Rattle.table.specs.declared.Row.{Row}
 use Rattle.table.specs.declared.index.TypeEntry.{TypeEntry}
@@ -28,7 +29,6 @@ use Rattle.helpers.specs.Marks.{resultOf, stepUnder}
 use Rattle.helpers.specs.Rounds.{upTo}
 use Rattle.helpers.specs.Tables.{borrowsGuarded, marksUnder, procedureOf}
 use Rattle.helpers.proofs.Net.{lower, after, arrived, inside, sourceOf, sources}
-use Rattle.helpers.proofs.Lists.{and-both}
 use Rattle.helpers.proofs.Graph.{sources-below}
 use Rattle.helpers.proofs.Tied.{layoutOf, fits, placed}
 use Rattle.entries.specs.Entries.{Filled, makesAt}

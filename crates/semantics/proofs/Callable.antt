@@ -1,7 +1,7 @@
 -- Each call of an accepted list is good.
 use Prim.Native.Nat.{ℕ, zero, suc, _+_, _-_, _%_, _^_, _<_, _≤_}
 use mathlib.Core.Path.{_≡_, refl}
-use mathlib.Core.Bool.{Bool, true, false, cond, not, _&&_, _||_, true≢false, false≢true}
+use mathlib.Core.Bool.{Bool, true, false, cond, not, _&&_, _||_, false≢true}
 use mathlib.Core.List.{List, [], _∷_}
 use native.Mathlib.Decide.{decLt}
 use native.Mathlib.Omega.{arith}
@@ -9,6 +9,7 @@ use borrow.Author.Tests.{ltb-false, leb-false, eqb-true, eqb-false, not-false}
 use lib.Dec.{eqb, ltb}
 use lib.ListN.{length}
 use Rattle.laws.proofs.First.{all-fine, unfaulted}
+use Rattle.laws.proofs.Tests.{and-both, neither}
 use Rattle.table.specs.declared.Row.{Row}
 use Rattle.table.specs.declared.Verdict.{Verdict}
 use Rattle.table.specs.declared.Verdict.the-variants.{Accepted, Refused}
@@ -25,15 +26,7 @@ use Rattle.semantics.specs.Calls.{callRow, argumentRow, maxListBytes, ma
 use Rattle.semantics.specs.Claim.{All, none-left, also}
 use Rattle.semantics.specs.Callable.{Callable, GoodCall}
 
--- tests that fail, and tests that hold, together
-pub both-fail : (a b : Bool) → (a || b) ≡ false → (a ≡ false) × (b ≡ false)
-both-fail true b e = absurd (true≢false e)
-both-fail false b e = (refl, e)
-
-both-hold : (a b : Bool) → (a && b) ≡ true → (a ≡ true) × (b ≡ true)
-both-hold true b e = (refl, e)
-both-hold false b e = absurd (false≢true e)
-
+-- where two tests do not both hold and the first does, the other fails
 other-fails : (a b : Bool) → (a && b) ≡ false → a ≡ true → b ≡ false
 other-fails true b e h = e
 other-fails false b e h = absurd (false≢true h)
@@ -66,11 +59,11 @@ module _ (t : List ℕ) (ix : Index) where
   -- what refusal 16 does not find in a call
   there-is : (q : ℕ) → noSuchProcedure t ix q ≡ false → (q < ix .procedures) × (rowAt t (procedureIn ix q .row) .a ≡ 1)
   unfolding noSuchProcedure
-  there-is q e = let h = both-fail _ _ e in (leb-false _ _ (h .0), eqb-true _ _ (not-false _ (h .1)))
+  there-is q e = let h = neither _ _ e in (leb-false _ _ (h .0), eqb-true _ _ (not-false _ (h .1)))
 
   numbers-are : (q : ℕ) → notNumbers t ix q ≡ false → (allNumbers (parameterKinds t (procedureIn ix q)) ≡ true) × (allNumbers (resultKinds t (procedureIn ix q)) ≡ true)
   unfolding notNumbers
-  numbers-are q e = both-hold _ _ (not-false _ e)
+  numbers-are q e = and-both _ _ (not-false _ e)
 
   count-is : (q : ℕ) (args : List ℕ) → wrongCount t ix q args ≡ false → length args ≡ length (parameterKinds t (procedureIn ix q))
   unfolding wrongCount
@@ -78,14 +71,14 @@ module _ (t : List ℕ) (ix : Index) where
 
   budget-is : (budget : ℕ) → badBudget budget ≡ false → (0 < budget) × (budget ≤ maxBudget)
   unfolding badBudget
-  budget-is budget e = let h = both-fail _ _ e in let ne = eqb-false budget 0 (h .0) in (omega arith, ltb-false _ _ (h .1))
+  budget-is budget e = let h = neither _ _ e in let ne = eqb-false budget 0 (h .0) in (omega arith, ltb-false _ _ (h .1))
 
   good-call : (row : Row) (args : List ℕ) → All (λ (x : ℕ). x < 2 ^ 64) args → badCall t ix row args ≡ false → Callable t ix (row .b) (row .c) args
   unfolding badCall
   good-call row args low e =
-      let h = both-fail (noSuchProcedure t ix (row .b) || notNumbers t ix (row .b) || wrongCount t ix (row .b) args) (badBudget (row .c)) e in
-      let m = both-fail (noSuchProcedure t ix (row .b) || notNumbers t ix (row .b)) (wrongCount t ix (row .b) args) (h .0) in
-      let n = both-fail (noSuchProcedure t ix (row .b)) (notNumbers t ix (row .b)) (m .0) in
+      let h = neither (noSuchProcedure t ix (row .b) || notNumbers t ix (row .b) || wrongCount t ix (row .b) args) (badBudget (row .c)) e in
+      let m = neither (noSuchProcedure t ix (row .b) || notNumbers t ix (row .b)) (wrongCount t ix (row .b) args) (h .0) in
+      let n = neither (noSuchProcedure t ix (row .b)) (notNumbers t ix (row .b)) (m .0) in
       let a = there-is (row .b) (n .0) in
       let b = numbers-are (row .b) (n .1) in
       let c = budget-is (row .c) (h .1) in
@@ -99,7 +92,7 @@ module _ (t : List ℕ) (ix : Index) where
 
     -- its length: whole rows, at most 256
     pub list-length : (length l ≤ maxListBytes) × (length l % rowBytes ≡ 0)
-    list-length = let h = both-fail _ _ (parts .0) in (ltb-false _ _ (h .0), eqb-true _ _ (not-false _ (h .1)))
+    list-length = let h = neither _ _ (parts .0) in (ltb-false _ _ (h .0), eqb-true _ _ (not-false _ (h .1)))
 
     pub list-rows : rowCount l ≤ 256
     list-rows = omega (arith, list-length)

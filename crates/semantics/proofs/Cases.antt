@@ -2,7 +2,7 @@
 use Prim.Native.Nat.{ℕ, _+_, _-_, _/_, _%_, _<_, _≤_}
 use mathlib.Core.Path.{_≡_, refl, ap, sym, _∙_}
 use mathlib.Core.List.{List, [], _∷_, _++_, map}
-use mathlib.Core.Bool.{Bool, true, false, cond, not, _&&_, or-true, true≢false}
+use mathlib.Core.Bool.{Bool, true, false, cond, not, or-true, true≢false}
 use mathlib.Core.Option.{Option, none, some}
 use mathlib.Core.Logic.{_⊎_, inl, inr, ⊎-elim}
 use native.Mathlib.Omega.{arith}
@@ -11,6 +11,7 @@ use lib.Dec.{eqb, ltb}
 use borrow.Author.Tests.{eq-eqb, eqb-true, ltb-true, not-true}
 use Rattle.laws.specs.Lists.{tabulate}
 use Rattle.laws.proofs.Lists.{length-tabulate}
+use Rattle.laws.proofs.Tests.{and-both}
 use Rattle.table.specs.Format
 use Rattle.table.specs.Index.{indexOf}
 use Rattle.declarations.specs.Program.{number, numberRef, recordRef, referenceTo, frozen, isRecord, procedureIn, typeIn, fieldKinds, resultKinds, codeOf, localCount, localKind, instructionIn}
@@ -45,11 +46,6 @@ use Rattle.semantics.proofs.Frames.{resultMarks, Suspended, bottom, ove
 use Rattle.semantics.proofs.Entering.{entered, has-length}
 use Rattle.semantics.proofs.Instructions.{effect-at, locals-kept, locals-moved, locals-stored, pushes-moved, pushes-copied, pushes-field, pushes-called, pushes-length}
 use Rattle.semantics.proofs.Running.{OutcomeOk, Running, one-taken, two-taken, none-taken, push-none, push-one, target-same, given, pushedMarks, localsThen, Did, stands, waits, goes-on, then, keeps}
-
--- both of two
-pub and-both : (a c : Bool) → (a && c) ≡ true → (a ≡ true) × (c ≡ true)
-and-both true c e = (refl, e)
-and-both false c e = absurd (true≢false (sym e))
 
 module _ {t : List ℕ} {T W : List ℕ} {id p i : ℕ} {ops vs under : List Value} {ls : List (Option Value)} {fs : List Frame} {h : List Cell} {st : List Entry} {n : ℕ}
     (R : Running t T W id p i ops vs under ls fs h st n) where

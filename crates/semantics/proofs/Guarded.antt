@@ -12,6 +12,7 @@ use lib.Dec.{eqb}
 use lib.ListN.{getElem? as nth}
 use Rattle.laws.specs.Lists.{member, every}
 use Rattle.laws.proofs.Lists.{every-at}
+use Rattle.laws.proofs.Tests.{and-both, neither}
 use Rattle.table.specs.declared.Row.{Row}
 use Rattle.table.specs.Format.{fieldKind}
 use Rattle.table.specs.Rows.{rowCount, rowAt, kindAt, isKind}
@@ -26,14 +27,13 @@ use Rattle.acceptance.proofs.Stretches.{kind-at}
 use Rattle.semantics.specs.Machine.{Cell, Entry, Frame}
 use Rattle.semantics.specs.Words.{typeRow, guardedField, kindsIn, Exists, NumberIn}
 use Rattle.semantics.specs.Claim.{Sound}
-use Rattle.semantics.proofs.Callable.{both-fail}
-use Rattle.semantics.proofs.Worded.{both, not-not, fine, covers}
+use Rattle.semantics.proofs.Worded.{not-not, fine, covers}
 use Rattle.semantics.proofs.Consequences.{number-there}
 
 -- a guarded field's row that the rows pass accepts declares a number
 guard-sort : (s : Above) (row : Row) → row .kind ≡ 3 → row .c ≡ 1 → badGuard s row ≡ false → row .a ≡ 0
 unfolding badGuard
-guard-sort s row k c e = let z : not (eqb (row .a) 0 && s .trusted) ≡ false = rw (k, c) at e in eqb-true (row .a) 0 (both (eqb (row .a) 0) (s .trusted) (not-not (eqb (row .a) 0 && s .trusted) z) .0)
+guard-sort s row k c e = let z : not (eqb (row .a) 0 && s .trusted) ≡ false = rw (k, c) at e in eqb-true (row .a) 0 (and-both (eqb (row .a) 0) (s .trusted) (not-not (eqb (row .a) 0 && s .trusted) z) .0)
 
 no-type : (row : Row) → row .kind ≡ 3 → row .a ≡ 0 → usesB row ≡ false
 unfolding usesB usedWith uses member
@@ -43,7 +43,7 @@ type-zero : (row : Row) → usesB row ≡ false → unusedByte row ≡ false →
 unfolding unusedByte
 type-zero row u e =
     let a = dirty (usesA row) (row .a) in let b = dirty (usesB row) (row .b) in let c = dirty (usesC row) (row .c) in
-    let w : dirty (usesB row) (row .b) ≡ false = both-fail a b (both-fail (a || b) c (both-fail (a || b || c) (dirty (usesD row) (row .d)) e .0) .0) .1 in
+    let w : dirty (usesB row) (row .b) ≡ false = neither a b (neither (a || b) c (neither (a || b || c) (dirty (usesD row) (row .d)) e .0) .0) .1 in
     let z : not (eqb (row .b) 0) ≡ false = rw u at w in
     eqb-true (row .b) 0 (not-not (eqb (row .b) 0) z)
 
@@ -70,7 +70,7 @@ module _ (t : List ℕ) (a : AcceptedTable t) where
   pub guarded-number : (y j : ℕ) → guardedField t y j ≡ true → nth (kindsIn t y) j ≡ some number
   unfolding guardedField fieldKinds typeAt faultAt kindAt isKind
   guarded-number y j e =
-      let parts = both (every (λ (k : ℕ). isKind t fieldKind (typeRow t y + 1 + k)) (suc j)) (eqb (rowAt t (typeRow t y + 1 + j) .c) 1) e in
+      let parts = and-both (every (λ (k : ℕ). isKind t fieldKind (typeRow t y + 1 + k)) (suc j)) (eqb (rowAt t (typeRow t y + 1 + j) .c) 1) e in
       let fields : (m : ℕ) → m ≤ j → isKind t fieldKind (typeRow t y + 1 + m) ≡ true = λ m l. every-at (λ (k : ℕ). isKind t fieldKind (typeRow t y + 1 + k)) (suc j) m (parts .0) (omega arith) in
       let field : kindAt t (typeRow t y + 1 + j) ≡ fieldKind = eqb-true _ _ (fields j (omega arith)) in
       let below = inside (typeRow t y + 1 + j) field in

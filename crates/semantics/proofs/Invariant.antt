@@ -8,6 +8,7 @@ use native.Mathlib.Omega.{arith}
 use borrow.Author.Tests.{eqb-true}
 use lib.ListN.{length, drop, replicate, length-append, length-replicate, length-map, length-drop}
 use Rattle.laws.proofs.Lists.{length-tabulate}
+use Rattle.laws.proofs.Tests.{and-both}
 use Rattle.table.specs.declared.index.Index.{Index}
 use Rattle.table.specs.Index.{indexOf}
 use Rattle.table.specs.Rows.{rowAt}
@@ -31,7 +32,6 @@ use Rattle.semantics.proofs.Typing.{Has, hnil, hcons, fnum, CellOk, _�
 use Rattle.semantics.proofs.Frames.{bottom, Stack, runs, typeOf}
 use Rattle.semantics.proofs.Entering.{entered}
 use Rattle.semantics.proofs.Running.{Rest, OutcomeOk}
-use Rattle.semantics.proofs.Cases.{and-both}
 use Rattle.semantics.proofs.Steps.{StateOk, DidAt, step-ok, writes-through}
 use Rattle.semantics.proofs.Worded.{procedure-is}
 use Rattle.semantics.proofs.Placed.{row-is}

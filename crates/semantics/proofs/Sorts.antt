@@ -1,10 +1,11 @@
 -- Kinds as numbers: which are records, which references, and which of these can be written through.
 use Prim.Native.Nat.{ℕ, _%_, _≤_}
 use mathlib.Core.Path.{_≡_, refl}
-use mathlib.Core.Bool.{Bool, true, false, cond, _&&_, _||_, and-false, false≢true}
+use mathlib.Core.Bool.{Bool, true, false, cond, _||_, and-false}
 use native.Mathlib.Omega.{arith}
 use lib.Dec.{eqb, leb}
 use borrow.Author.Tests.{eq-eqb, ne-eqb, le-leb, lt-leb, leb-true, leb-false, eqb-true}
+use Rattle.laws.proofs.Tests.{and-both}
 use Rattle.declarations.specs.Program.{recordOf, recordRef, numberRef, referenceTo, frozen, isRecord, isReference, isWritable}
 use Rattle.effects.specs.Effects.{reads, alike}
 use Rattle.semantics.specs.Machine.{asKind}
@@ -35,11 +36,7 @@ to-writable c e = let h = leb-false 2 (c % 8) e in (omega (arith, h), omega (ari
 
 pub is-writable : (k : ℕ) → isWritable k ≡ true → Writable k
 unfolding isWritable isReference
-is-writable k e = go (leb 2 (k % 8)) refl e
-  where
-    go : (a : Bool) → leb 2 (k % 8) ≡ a → (a && leb (k % 8) 3) ≡ true → Writable k
-    go true p q = (leb-true 2 (k % 8) p, leb-true (k % 8) 3 q)
-    go false p q = absurd (false≢true q)
+is-writable k e = let b = and-both (leb 2 (k % 8)) _ e in (leb-true 2 (k % 8) (b .0), leb-true (k % 8) 3 (b .1))
 
 -- read-only or not, it is a reference and no record
 pub as-reference : (w : Bool) (k : ℕ) → Writable k → isReference (asKind w k) ≡ true

@@ -9,6 +9,7 @@ use native.Mathlib.Omega.{arith}
 use borrow.Author.Tests.{eqb-false, le-ltb}
 use lib.Dec.{eqb}
 use lib.ListN.{length, getD}
+use Rattle.laws.proofs.Tests.{neither}
 use Rattle.table.specs.declared.Row.{Row}
 use Rattle.table.specs.declared.index.Index.{Index}
 use Rattle.table.specs.Format.{opReadRef, opWriteRef, opBorrowFld, opPack, opMoveTo, opMoveFrom, opBorrowGlobal, opCall, opRet, opOp, opFreeze}
@@ -55,10 +56,6 @@ two-taken k l v w under vs rest = go (eqb (valueKind w) l)
 -- other opcodes than Ret and Freeze
 apart : (op k : ℕ) → (eqb k opRet || eqb k opFreeze) ≡ false → op ≡ k → (op ≢ opRet) × (op ≢ opFreeze)
 apart op k z e = let n = neither (eqb k opRet) (eqb k opFreeze) z in (λ r. eqb-false k opRet (n .0) (sym e ∙ r), λ f. eqb-false k opFreeze (n .1) (sym e ∙ f))
-  where
-    neither : (c d : Bool) → (c || d) ≡ false → (c ≡ false) × (d ≡ false)
-    neither true d u = absurd (clash (cc))
-    neither false d u = (refl, u)
 
 -- The opcodes that can stop are other ones than Ret and Freeze
 module _ {r : Row} {ops : List Value} {fs : List Frame} {rs : List Cell} {st : List Entry} where

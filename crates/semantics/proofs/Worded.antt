@@ -1,7 +1,7 @@
 -- In an accepted table the words of demand 3, said of rows, are those that the index gives.
 use Prim.Native.Nat.{ℕ, zero, suc, _+_, _-_, _<_, _≤_}
 use mathlib.Core.Path.{_≡_, refl, ap, sym, _∙_}
-use mathlib.Core.Bool.{Bool, true, false, not, _&&_, true≢false, false≢true}
+use mathlib.Core.Bool.{Bool, true, false, not, true≢false, false≢true}
 use mathlib.Core.List.{List, []}
 use native.Mathlib.Omega.{arith}
 use native.Mathlib.Decide.{decLt}
@@ -11,6 +11,7 @@ use lib.Dec.{eqb}
 use lib.ListN.{getD, List·getD-eq-default}
 use Rattle.laws.specs.Lists.{member, every, count, nth, entries}
 use Rattle.laws.proofs.Lists.{every-at, count-yes, count-no, nth-none, entries-at, entryOf-at, entryOf-none, length-entries}
+use Rattle.laws.proofs.Tests.{and-both}
 use Rattle.table.specs.declared.index.TypeEntry.{TypeEntry}
 use Rattle.table.specs.declared.index.ProcedureEntry.{ProcedureEntry}
 use Rattle.table.specs.declared.Row.{Row}
@@ -50,10 +51,6 @@ first-kind (suc (suc (suc (suc (suc (suc (suc (suc k)))))))) e = absurd (false�
 pub not-not : (b : Bool) → not b ≡ false → b ≡ true
 not-not true e = refl
 not-not false e = absurd (true≢false e)
-
-pub both : (a b : Bool) → (a && b) ≡ true → (a ≡ true) × (b ≡ true)
-both true b e = (refl, e)
-both false b e = absurd (false≢true e)
 
 two-values : (x : ℕ) → x < 2 → eqb x 0 ≡ not (eqb x 1)
 two-values zero h = refl
@@ -120,7 +117,7 @@ module _ (t : List ℕ) (a : AcceptedTable t) where
   guarded-is y j e = go (decLt y (indexOf t .types))
     where
       parts : (every (λ (k : ℕ). isKind t fieldKind (typeRow t y + 1 + k)) (suc j) ≡ true) × (eqb (rowAt t (typeRow t y + 1 + j) .c) 1 ≡ true)
-      parts = both _ _ e
+      parts = and-both _ _ e
 
       go : Dec (y < indexOf t .types) → (y < indexOf t .types) × (eqb (rowAt t (typeIn (indexOf t) y .row + 1 + j) .c) 1 ≡ true)
       go (yes l) = (l, rw (type-is y l) (parts .1))

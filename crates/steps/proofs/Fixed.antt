@@ -3,12 +3,12 @@ use Prim.Native.Nat.{ℕ}
 use mathlib.Core.Path.{_≡_, refl}
 use mathlib.Core.Bool.{Bool, true, cond, not, _&&_, _||_}
 use mathlib.Core.List.{List, [], _∷_}
-use mathlib.Mathlib.Data.Bool.Basic.{and-eq-true-eq-eq-true-and-eq-true as both}
 use borrow.Author.Tests.{eqb-true, ltb-true}
 use lib.Dec.{eqb, ltb}
 use lib.ListN.{length, getD}
 use Rattle.laws.specs.Lists.{every}
 use Rattle.laws.proofs.Lists.{every-at}
+use Rattle.laws.proofs.Tests.{and-both}
 use Rattle.table.specs.declared.Row.{Row}
 use Rattle.table.specs.declared.index.TypeEntry.{TypeEntry}
 use Rattle.table.specs.declared.index.ProcedureEntry.{ProcedureEntry}
@@ -55,8 +55,8 @@ module _ (t : List ℕ) (own : ProcedureEntry) (named : TypeEntry) (callee : Pro
   entry-is : (a : ℕ) → isFixed a ≡ true → (taken a ≡ countsAt a .takes) × (pushed a ≡ countsAt a .gives)
   unfolding right
   entry-is a fixed =
-      let inside = ltb-true a pastOpcodes (both (not (isVarying a)) (ltb a pastOpcodes) .0 fixed .1) in
-      let e = both (eqb (taken a) (countsAt a .takes)) (eqb (pushed a) (countsAt a .gives)) .0 (rw fixed at (every-at right pastOpcodes a all-right inside)) in
+      let inside = ltb-true a pastOpcodes (and-both (not (isVarying a)) (ltb a pastOpcodes) fixed .1) in
+      let e = and-both (eqb (taken a) (countsAt a .takes)) (eqb (pushed a) (countsAt a .gives)) (rw fixed at (every-at right pastOpcodes a all-right inside)) in
       (eqb-true _ _ (e .0), eqb-true _ _ (e .1))
 
 -- so an instruction of opcode a takes and pushes what the table has
