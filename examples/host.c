@@ -11,8 +11,11 @@
 
 #define MAX_LIST (256 * 16)
 
+#define MAX_RULES (256 * 16)
+
 static unsigned char table[MAX_TABLE + 32];
 static unsigned char list[MAX_LIST + 16];
+static unsigned char rules[MAX_RULES + 16];
 static unsigned char text[YITHREL_MIN_TEXT + 100];
 static int failures;
 
@@ -31,33 +34,47 @@ static size_t load(const char *path)
     return load_into(table, sizeof table, path);
 }
 
-static void expect(const char *what, const unsigned char *bytes, size_t n, unsigned number, unsigned value)
+/* Judges n bytes under the first m bytes of `rules`, or without a rule file where `has` is 0: the answer, and every byte as it was. */
+static void expect_under(const char *what, const unsigned char *bytes, size_t n, size_t m, uint64_t has, unsigned number, unsigned value)
 {
-    unsigned char before[sizeof table];
+    static unsigned char before[sizeof table], rules_before[sizeof rules];
     if (n)
         memcpy(before, bytes, n);
-    uint64_t answer = yithrel_judge(bytes, n);
-    int same = n == 0 || memcmp(before, bytes, n) == 0;
+    memcpy(rules_before, rules, sizeof rules);
+    uint64_t answer = yithrel_judge(bytes, n, rules, m, has);
+    int same = (n == 0 || memcmp(before, bytes, n) == 0) && memcmp(rules_before, rules, sizeof rules) == 0;
     int ok = answer == ((uint64_t)number << 32) + value && same;
     printf("%s: number %u value %u%s\n", what, (unsigned)(answer >> 32), (unsigned)(answer & 0xffffffffu), ok ? "" : "  WRONG");
     failures += !ok;
 }
 
-/* Runs the list in `list` over the table in `table` with a buffer of text_len bytes: the answer, the text, and every other byte as it was. */
-static void expect_run(const char *what, size_t n, size_t k, size_t text_len, unsigned number, unsigned value, const char *lines)
+static void expect(const char *what, const unsigned char *bytes, size_t n, unsigned number, unsigned value)
 {
-    static unsigned char table_before[sizeof table], list_before[sizeof list];
+    expect_under(what, bytes, n, 0, 0, number, value);
+}
+
+/* Runs the list in `list` over the table in `table`, under the first m bytes of `rules` unless `has` is 0, with a buffer of text_len bytes: the answer, the text,
+ * and every other byte as it was. */
+static void expect_run_under(const char *what, size_t n, size_t k, size_t m, uint64_t has, size_t text_len, unsigned number, unsigned value, const char *lines)
+{
+    static unsigned char table_before[sizeof table], list_before[sizeof list], rules_before[sizeof rules];
     memcpy(table_before, table, sizeof table);
     memcpy(list_before, list, sizeof list);
+    memcpy(rules_before, rules, sizeof rules);
     memset(text, 0xa5, sizeof text);
-    uint64_t answer = yithrel_run(table, n, list, k, text, text_len);
+    uint64_t answer = yithrel_run(table, n, list, k, rules, m, has, text, text_len);
     size_t size = number ? 0 : value;
     int ok = answer == ((uint64_t)number << 32) + value && memcmp(text, lines, size) == 0;
     for (size_t i = size; i < sizeof text; i++)
         ok = ok && text[i] == 0xa5;
-    ok = ok && memcmp(table_before, table, sizeof table) == 0 && memcmp(list_before, list, sizeof list) == 0;
+    ok = ok && memcmp(table_before, table, sizeof table) == 0 && memcmp(list_before, list, sizeof list) == 0 && memcmp(rules_before, rules, sizeof rules) == 0;
     printf("%s: number %u value %u%s\n%.*s", what, (unsigned)(answer >> 32), (unsigned)(answer & 0xffffffffu), ok ? "" : "  WRONG", (int)size, text);
     failures += !ok;
+}
+
+static void expect_run(const char *what, size_t n, size_t k, size_t text_len, unsigned number, unsigned value, const char *lines)
+{
+    expect_run_under(what, n, k, 0, 0, text_len, number, value, lines);
 }
 
 /* Credits published under addresses by the credit module's procedure 0: twice under one, the second time the key is taken; then under two. */
@@ -112,6 +129,42 @@ static void run_helped(void)
     expect("given to a public procedure", table, n, 13, 30);
 }
 
+/* Guests may not call the mill, module 1: a table with one that does is refused, at its Call. */
+static void run_guests(void)
+{
+    static const char asked[] = "call 0 done\ncall 1 done 65\nstore 0 7 500\n";
+    static const char published[] = "call 0 done\nstore 0 7 500\n";
+    size_t n = load("examples/guests.bin");
+    size_t k = load_into(list, sizeof list, "examples/guests-calls.bin");
+    size_t m = load_into(rules, sizeof rules, "examples/guests-rules.bin");
+    size_t first = 21 * 16; /* without the last module */
+    expect("guests, without rules", table, n, 0, 26);
+    expect_under("guests", table, n, m, 1, 22, 24);
+    expect_under("guests, any other number", table, n, m, UINT64_MAX, 22, 24);
+    expect_under("the first guest", table, first, m, 1, 0, 21);
+    expect_under("rules less one byte", table, n, m - 1, 1, 20, 0);
+    expect_under("rules of no bytes", table, n, 0, 1, 20, 0);
+    expect_under("the first three rules", table, n, 3 * 16, 1, 21, 34);
+    int null_ok = yithrel_judge(table, n, NULL, 0, 0) == 26 && yithrel_judge(table, n, NULL, 0, 1) == (uint64_t)20 << 32;
+    printf("null for the rules%s\n", null_ok ? "" : "  WRONG");
+    failures += !null_ok;
+    expect_run_under("run without rules", n, k, m, 0, YITHREL_MIN_TEXT, 0, sizeof asked - 1, asked);
+    expect_run_under("run", n, k, m, 1, YITHREL_MIN_TEXT, 22, 24, "");
+    expect_run_under("run the first guest", first, 32, m, 1, YITHREL_MIN_TEXT, 0, sizeof published - 1, published);
+    rules[2 * 16 + 1] = 1;
+    expect_run_under("run, all allowed", n, k, m, 1, YITHREL_MIN_TEXT, 0, sizeof asked - 1, asked);
+    rules[2 * 16 + 8] = 1;
+    expect_run_under("a byte that is not zero", n, k, m, 1, YITHREL_MIN_TEXT, 20, 2, "");
+    memset(rules, 0, sizeof rules);
+    for (size_t i = 0; i < 257; i++) {
+        rules[16 * i] = rules[16 * i + 1] = 1;
+        rules[16 * i + 4] = rules[16 * i + 5] = (unsigned char)(i / 16 % 16);
+        rules[16 * i + 6] = rules[16 * i + 7] = (unsigned char)(i % 16);
+    }
+    expect_under("a row for each pair", table, n, 256 * 16, 1, 0, 26);
+    expect_under("257 rows", table, n, 257 * 16, 1, 20, 0);
+}
+
 int main(void)
 {
     size_t n = load("examples/credit.bin");
@@ -137,5 +190,6 @@ int main(void)
     run_credits();
     run_till();
     run_helped();
+    run_guests();
     return failures != 0;
 }

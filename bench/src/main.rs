@@ -1,5 +1,6 @@
-//! Compares the proved judge and machine, through their C functions, with the reference: in speed, on tables and loops of several
-//! kinds, and in their answers, on as many made tables and runs as wanted. Measures the stack that the C functions need.
+//! Compares the proved judge and machine, through their C functions, with the reference: in speed, on tables, rule files and loops of
+//! several kinds, and in their answers, on as many made tables and runs as wanted, each with its made rule file. Measures the stack that
+//! the C functions need, without a rule file and with one.
 //!
 //!     bench speed
 //!     bench compare SEED COUNT
@@ -9,6 +10,7 @@
 
 mod judging;
 mod loops;
+mod policies;
 mod proved;
 mod running;
 mod stack;

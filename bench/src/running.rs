@@ -1,4 +1,4 @@
-//! The machine against the reference machine: in its answers, on made runs, and in speed, on loops and lists of short calls.
+//! The machine against the reference machine: in its answers, on made runs under made rule files, and in speed, on loops and lists of short calls.
 
 use crate::loops::{self, Course};
 use crate::proved;
@@ -27,11 +27,17 @@ struct Tally {
     runs: BTreeMap<u32, u64>,
     /// By stop, or 0 for calls done.
     calls: BTreeMap<u32, u64>,
+    /// With a rule file, and of these run through.
+    files: u64,
+    through: u64,
     different: u64,
 }
 
 impl Tally {
-    fn count(&mut self, answer: &Result<Vec<u8>, Refusal>) {
+    fn count(&mut self, case: &Case, answer: &Result<Vec<u8>, Refusal>) {
+        let file = case.rules.has != 0;
+        self.files += u64::from(file);
+        self.through += u64::from(file && answer.is_ok());
         match answer {
             Ok(text) => {
                 *self.runs.entry(0).or_default() += 1;
@@ -50,6 +56,8 @@ impl Tally {
         for (stop, times) in other.calls {
             *self.calls.entry(stop).or_default() += times;
         }
+        self.files += other.files;
+        self.through += other.through;
         self.different += other.different;
     }
 
@@ -57,6 +65,8 @@ impl Tally {
         println!("  run through: {}", self.runs.get(&0).unwrap_or(&0));
         print!("{}", refusal_lines(&TABLE_PASSES, &self.runs));
         print!("{}", refusal_lines(&RUN_PASSES, &self.runs));
+        println!("  with a rule file: {}", self.files);
+        println!("  run through under a rule file: {}", self.through);
         for (stop, times) in &self.calls {
             match stop {
                 0 => println!("  calls done: {times}"),
@@ -98,8 +108,8 @@ fn compare_part(seed: u64, numbers: impl Iterator<Item = u64>) -> Tally {
     let mut tally = Tally::default();
     for number in numbers {
         let case = runs::case(seed, number);
-        let expected = reference::run(&case.table, &case.list, case.text_len);
-        tally.count(&expected);
+        let expected = reference::run(&case.table, &case.list, case.rules.given(), case.text_len);
+        tally.count(&case, &expected);
         if let Some(what) = difference(&case, &expected, number) {
             tally.different += 1;
             eprintln!("run {number} of seed {seed} differs: {what}");
@@ -110,10 +120,11 @@ fn compare_part(seed: u64, numbers: impl Iterator<Item = u64>) -> Tally {
 
 /// Runs the case through the C function and tells what is not as expected, if anything.
 fn difference(case: &Case, expected: &Result<Vec<u8>, Refusal>, number: u64) -> Option<&'static str> {
-    let (table, list) = (case.table.clone(), case.list.clone());
+    let (table, list, rules) = (case.table.clone(), case.list.clone(), case.rules.clone());
     let before: Vec<u8> = (number..).take(case.text_len + 2 * MARGIN).map(|i| (i * 37 + (i >> 8)) as u8).collect();
     let mut after = before.clone();
-    let answer = proved::run(&table, &list, &mut after[MARGIN..MARGIN + case.text_len]);
+    let text = &mut after[MARGIN..MARGIN + case.text_len];
+    let answer = proved::run(&table, &list, &rules.bytes, rules.has, text);
     let (number, text) = match expected {
         Ok(text) => (text.len() as u64, &text[..]),
         Err((number, row)) => ((u64::from(*number) << 32) + *row as u64, &[][..]),
@@ -129,6 +140,8 @@ fn difference(case: &Case, expected: &Result<Vec<u8>, Refusal>, number: u64) -> 
         Some("table changed")
     } else if list != case.list {
         Some("list changed")
+    } else if rules != case.rules {
+        Some("rules changed")
     } else {
         None
     }
@@ -163,8 +176,8 @@ fn most_of(course: &Course) -> Most {
 
 /// Both machines must write the same text for the list.
 fn check(course: &Course, list: &[u8], text: &mut [u8]) {
-    let expected = reference::run(&course.table, list, text.len()).expect("table and list are good");
-    assert_eq!(proved::run(&course.table, list, text), expected.len() as u64);
+    let expected = reference::run(&course.table, list, None, text.len()).expect("table and list are good");
+    assert_eq!(proved::run(&course.table, list, &[], 0, text), expected.len() as u64);
     assert!(text.starts_with(&expected));
 }
 
@@ -187,10 +200,10 @@ impl Best {
         let table = &course.table;
         for (number, list) in [&course.short, &course.long].into_iter().enumerate() {
             let proved = time(|| {
-                black_box(proved::run(black_box(table), black_box(list), text));
+                black_box(proved::run(black_box(table), black_box(list), &[], 0, text));
             });
             let plain = time(|| {
-                black_box(reference::run(black_box(table), black_box(list), limit::TEXT_BYTES)).ok();
+                black_box(reference::run(black_box(table), black_box(list), None, limit::TEXT_BYTES)).ok();
             });
             self.proved[number] = self.proved[number].min(proved);
             self.plain[number] = self.plain[number].min(plain);

@@ -2,9 +2,11 @@
 //! through /proc/self/mem.
 
 use crate::loops::{self, SETTINGS, WORKS};
-use crate::{judging, proved, running};
+use crate::{judging, policies, proved, running};
 use reference::gen::plan::{argument_row, asm::*, call_row, Plan, ProcPlan};
-use reference::gen::{limits, runs, tables};
+use reference::gen::limits;
+use reference::gen::runs::{self, Case};
+use reference::gen::tables::{self, TableCase};
 use reference::program::Sort;
 use reference::row::{limit, write_rows};
 use std::fs::File;
@@ -40,15 +42,15 @@ impl Gauge {
         top - (low + untouched)
     }
 
-    fn judge(&mut self, table: &[u8]) -> usize {
+    fn judge(&mut self, table: &[u8], rules: &[u8], has: u64) -> usize {
         self.depth(&mut || {
-            black_box(proved::judge(table));
+            black_box(proved::judge(table, rules, has));
         })
     }
 
-    fn run(&mut self, table: &[u8], list: &[u8], text: &mut [u8]) -> usize {
+    fn run(&mut self, table: &[u8], list: &[u8], rules: &[u8], has: u64, text: &mut [u8]) -> usize {
         self.depth(&mut || {
-            black_box(proved::run(table, list, text));
+            black_box(proved::run(table, list, rules, has, text));
         })
     }
 }
@@ -83,7 +85,7 @@ impl Deepest {
     fn print(&self, what: &str) {
         let Deepest { calls, bytes, reached, first } = self;
         let kilobytes = *bytes as f64 / 1_000.0;
-        println!("{what:36} {bytes:>7} bytes ({kilobytes:.1} KB), in {reached} of {calls} calls, first in {first}");
+        println!("{what:48} {bytes:>7} bytes ({kilobytes:.1} KB), in {reached} of {calls} calls, first in {first}");
     }
 }
 
@@ -114,7 +116,7 @@ fn nested() -> (Vec<u8>, Vec<u8>) {
         call_row(publish, limit::BUDGET),
     ];
     let (table, list) = (plan.bytes(), write_rows(&list));
-    let text = reference::run(&table, &list, limit::TEXT_BYTES).expect("table and list are good");
+    let text = reference::run(&table, &list, None, limit::TEXT_BYTES).expect("table and list are good");
     let ends = running::ends(&text);
     assert_eq!((table.len(), &ends[..]), (16 * limit::ROWS, &[36, 0, 0, 37][..]));
     let opened = text.iter().take_while(|&&byte| byte != b')').filter(|&&byte| byte == b'(').count();
@@ -136,6 +138,7 @@ fn hard() -> Vec<(String, Vec<u8>, Vec<u8>)> {
     }
     cases.push(("credits, 2,048 rows".to_string(), judging::full(), Vec::new()));
     cases.push(("rounds, 16 locals".to_string(), judging::rounds(40, 16), Vec::new()));
+    cases.push(("16 modules, 2,048 rows".to_string(), policies::table(limit::ROWS), write_rows(&[call_row(0, limit::BUDGET)])));
     for number in 0..limits::TABLES {
         cases.push((format!("limit {number}"), limits::table(number), Vec::new()));
     }
@@ -154,24 +157,48 @@ fn measure_here() {
     nothing.add(gauge.depth(&mut || ()), || "the measuring itself".to_string());
     nothing.print("no call");
 
-    let (mut judged, mut ran) = (Deepest::default(), Deepest::default());
+    measure_made(&mut gauge);
+    measure_hard(&mut gauge);
+}
+
+/// Made tables and runs, without rule files and with their own.
+fn measure_made(gauge: &mut Gauge) {
+    let [mut judged, mut ran, mut judged_under, mut ran_under] = std::array::from_fn(|_| Deepest::default());
     for number in 0..MADE {
         let name = || format!("{number} of seed {SEED}");
-        judged.add(gauge.judge(&tables::table(SEED, number)), name);
-        let case = runs::case(SEED, number);
-        let mut text = vec![0; case.text_len];
-        judged.add(gauge.judge(&case.table), || format!("table of run {number} of seed {SEED}"));
-        ran.add(gauge.run(&case.table, &case.list, &mut text), name);
+        let of_run = || format!("table of run {number} of seed {SEED}");
+        let TableCase { table, rules } = tables::case(SEED, number);
+        judged.add(gauge.judge(&table, &[], 0), name);
+        judged_under.add(gauge.judge(&table, &rules.bytes, 1), name);
+        let Case { table, list, rules, text_len } = runs::case(SEED, number);
+        let mut text = vec![0; text_len];
+        judged.add(gauge.judge(&table, &[], 0), of_run);
+        judged_under.add(gauge.judge(&table, &rules.bytes, 1), of_run);
+        ran.add(gauge.run(&table, &list, &[], 0, &mut text), name);
+        ran_under.add(gauge.run(&table, &list, &rules.bytes, 1, &mut text), name);
     }
     judged.print("yithrel_judge, made tables");
     ran.print("yithrel_run, made runs");
+    judged_under.print("yithrel_judge, made tables with rule files");
+    ran_under.print("yithrel_run, made runs with rule files");
+}
 
-    let (mut judged, mut ran) = (Deepest::default(), Deepest::default());
+/// Tables and runs at the limits, without a rule file and with each of several.
+fn measure_hard(gauge: &mut Gauge) {
+    let [mut judged, mut ran, mut judged_under, mut ran_under] = std::array::from_fn(|_| Deepest::default());
     let mut text = vec![0; limit::TEXT_BYTES];
+    let files = policies::files();
     for (name, table, list) in hard() {
-        judged.add(gauge.judge(&table), || name.clone());
-        ran.add(gauge.run(&table, &list, &mut text), || name.clone());
+        judged.add(gauge.judge(&table, &[], 0), || name.clone());
+        ran.add(gauge.run(&table, &list, &[], 0, &mut text), || name.clone());
+        for (file, rules) in &files {
+            let name = || format!("{name}, {file}");
+            judged_under.add(gauge.judge(&table, rules, 1), name);
+            ran_under.add(gauge.run(&table, &list, rules, 1, &mut text), name);
+        }
     }
     judged.print("yithrel_judge, tables at the limits");
     ran.print("yithrel_run, runs at the limits");
+    judged_under.print("yithrel_judge, tables at the limits, rule files");
+    ran_under.print("yithrel_run, runs at the limits, rule files");
 }

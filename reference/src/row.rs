@@ -1,4 +1,4 @@
-//! One row of a table or of a call list: 16 bytes, little-endian, unsigned.
+//! One row of a table, of a call list or of a rule file: 16 bytes, little-endian, unsigned.
 
 pub const ROW_BYTES: usize = 16;
 
@@ -140,7 +140,7 @@ pub fn uses(kind: u8, a: u8) -> Uses {
     Uses { a: kind != kind::TYPE, b, c, d }
 }
 
-/// Limits of document 01.
+/// Limits of documents 01 and 02.
 pub mod limit {
     pub const ROWS: usize = 2_048;
     pub const MODULES: usize = 16;
@@ -153,6 +153,8 @@ pub mod limit {
     pub const OPERANDS: usize = 16;
     pub const LIST_BYTES: usize = 4_096;
     pub const TEXT_BYTES: usize = 65_536;
+    /// Rows of a rule file.
+    pub const RULES: usize = 256;
     pub const BUDGET: u32 = 65_535;
     pub const FRAMES: usize = 16;
     pub const RECORDS: usize = 128;

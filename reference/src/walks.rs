@@ -171,6 +171,20 @@ fn ways_on(place: usize, instr: Instr) -> [Option<usize>; 2] {
     }
 }
 
+/// For each row of the table whether it is an instruction that some walk reaches.
+pub fn reached_rows(program: &Program) -> Vec<bool> {
+    let mut rows = vec![false; program.rows];
+    for procedure in &program.procedures {
+        let mut waiting = vec![0];
+        while let Some(place) = waiting.pop() {
+            if !std::mem::replace(&mut rows[procedure.code_row + place], true) {
+                waiting.extend(ways_on(place, program.code(procedure)[place]).into_iter().flatten());
+            }
+        }
+    }
+    rows
+}
+
 /// One walk at a row, as far as locals and leaks can tell walks apart.
 #[derive(Clone, Copy, PartialEq, Eq)]
 struct Walk {

@@ -215,7 +215,7 @@ fn call_s(budget: u8) -> [u8; 32] {
 }
 
 fn run_s(list: &[u8]) -> String {
-    String::from_utf8(reference::run(&s(), list, BUFFER).expect("not refused")).expect("plain text")
+    String::from_utf8(reference::run(&s(), list, None, BUFFER).expect("not refused")).expect("plain text")
 }
 
 #[test]

@@ -4,9 +4,12 @@ use reference::arith::Arith;
 use reference::gen::keys::{self, Depot};
 use reference::gen::plan::{argument_row, call_row, Plan};
 use reference::gen::rng::Rng;
+use reference::gen::rules::{Aim, Ground, MOST_BYTES};
+use reference::gen::squares;
+use reference::gen::tables::TableCase;
 use reference::gen::value_faults::{self, CAUSES};
 use reference::gen::view_faults::{add_pair, Family, FAMILIES};
-use reference::gen::{faults, helpers, limits, runs, structured, tables, wild};
+use reference::gen::{callers, faults, helpers, limits, runs, structured, tables, wild};
 use reference::helper_counts::{self, RunCounts, TableCounts};
 use reference::machine::{Access, Entry, Machine, Outcome, Reference, Value, Watch};
 use reference::marks::{found_under, is_helper, smallest, Marks};
@@ -14,25 +17,34 @@ use reference::orders::{StoreCounts, OTHER_ORDERS};
 use reference::overdrawn::{OverdrawnCounts, WRONG_READINGS};
 use reference::program::{Instr, Procedure, Program, Sort};
 use reference::row::{write_rows, Row};
+use reference::rule_counts::{RuleCounts, RuleRunCounts};
+use reference::rule_readings::{self, RIGHT};
+use reference::rules::{call_rows, check_rules, Rule};
 use reference::stop::Stop;
-use reference::walks::{joint, places};
+use reference::walks::{joint, places, reached_rows};
 use reference::TABLE_PASSES;
 use std::collections::{BTreeMap, BTreeSet};
 
 #[test]
 fn judging_is_deterministic() {
     for number in 0..1_500 {
-        let table = tables::table(11, number);
+        let TableCase { table, rules } = tables::case(11, number);
         assert_eq!(table, tables::table(11, number));
-        let lent = table.clone();
-        let verdict = reference::judge(&table);
-        assert_eq!(verdict, reference::judge(&table));
-        assert_eq!(table, lent);
+        assert_eq!(rules, tables::case(11, number).rules);
+        let lent = (table.clone(), rules.clone());
+        let verdict = reference::judge_under(&table, rules.given());
+        assert_eq!(verdict, reference::judge_under(&table, rules.given()));
+        assert_eq!((&table, &rules), (&lent.0, &lent.1));
         match verdict {
             Ok(rows) => assert_eq!(rows * 16, table.len()),
             Err((number, row)) => {
                 assert!(TABLE_PASSES.iter().any(|(_, refusals)| refusals.contains(&number)));
-                assert!(row == 0 || row < table.len() / 16);
+                let most = match number {
+                    20 => rules.bytes.len() / 16,
+                    21 => 256,
+                    _ => table.len() / 16,
+                };
+                assert!(row == 0 || row < most);
             }
         }
     }
@@ -220,7 +232,7 @@ impl Chase<'_> {
 #[test]
 fn rounds_come_to_the_marks_of_one_search() {
     let (mut marked, mut compared) = (0, 0);
-    for number in 0..4_000 {
+    for number in 0..5_000 {
         let Ok(program) = reference::type_check(&tables::table(41, number)) else { continue };
         let (marks, rounds) = smallest(&program);
         assert_eq!(marks, Chase::marks(&program), "table {number}");
@@ -255,7 +267,7 @@ fn families_of_helpers_get_their_verdicts() {
 #[test]
 fn made_tables_tell_readings_of_paper_5_apart() {
     let mut counts = TableCounts::default();
-    for number in 0..4_000 {
+    for number in 0..5_000 {
         let table = tables::table(43, number);
         counts.add(&table, reference::judge(&table).err());
     }
@@ -270,9 +282,9 @@ fn made_tables_tell_readings_of_paper_5_apart() {
 #[test]
 fn made_runs_stop_in_helpers() {
     let mut counts = RunCounts::default();
-    for number in 0..6_000 {
+    for number in 0..8_000 {
         let case = runs::case(44, number);
-        if let Ok((program, calls)) = reference::admit_run(&case.table, &case.list, case.text_len) {
+        if let Ok((program, calls)) = reference::admit_run(&case.table, &case.list, case.rules.given(), case.text_len) {
             counts.add(&program, &calls);
         }
     }
@@ -449,8 +461,8 @@ fn accepted_tables_run_safely() {
 fn texts_fit_their_buffer_and_are_deterministic() {
     for number in 0..600 {
         let case = runs::case(17, number);
-        let answer = reference::run(&case.table, &case.list, case.text_len);
-        assert_eq!(answer, reference::run(&case.table, &case.list, case.text_len));
+        let answer = reference::run(&case.table, &case.list, case.rules.given(), case.text_len);
+        assert_eq!(answer, reference::run(&case.table, &case.list, case.rules.given(), case.text_len));
         if let Ok(text) = answer {
             assert!(text.len() <= 65_536);
         }
@@ -476,7 +488,10 @@ fn store_lines_rise_by_type_then_address() {
     let mut lines = 0;
     for number in 0..3_000 {
         let case = runs::case(26, number);
-        let Ok((text, store)) = reference::run_with_store(&case.table, &case.list, case.text_len) else { continue };
+        let Ok((text, store)) = reference::run_with_store(&case.table, &case.list, case.rules.given(), case.text_len)
+        else {
+            continue;
+        };
         let keys = store_keys(&text);
         assert!(keys.is_sorted_by(|one, next| one < next), "case {number}: {keys:?}");
         assert_eq!(keys.len(), store.len());
@@ -490,9 +505,9 @@ fn store_lines_rise_by_type_then_address() {
 fn made_runs_tell_orders_apart() {
     let mut counts = StoreCounts::default();
     let mut full_of_types = 0;
-    for number in 0..2_500 {
+    for number in 0..3_200 {
         let case = runs::case(27, number);
-        if let Ok((_, store)) = reference::run_with_store(&case.table, &case.list, case.text_len) {
+        if let Ok((_, store)) = reference::run_with_store(&case.table, &case.list, case.rules.given(), case.text_len) {
             counts.add(&store);
             full_of_types += u64::from(store.len() == 64 && types_of(&store) >= 2);
         }
@@ -548,9 +563,12 @@ fn sums_and_differences_stop_by_the_rule() {
     let mut depths = BTreeSet::new();
     let mut modules: BTreeMap<bool, usize> = BTreeMap::new();
     let (mut both, mut spent) = (0, 0);
-    for number in 0..4_000 {
+    for number in 0..5_500 {
         let case = runs::case(33, number);
-        let Ok((program, calls)) = reference::admit_run(&case.table, &case.list, case.text_len) else { continue };
+        let Ok((program, calls)) = reference::admit_run(&case.table, &case.list, case.rules.given(), case.text_len)
+        else {
+            continue;
+        };
         let mut machine = Machine::new(&program);
         let mut stops = Vec::new();
         for call in calls {
@@ -581,7 +599,7 @@ fn made_runs_tell_readings_of_paper_4_apart() {
     let mut counts = OverdrawnCounts::default();
     for number in 0..2_500 {
         let case = runs::case(34, number);
-        if let Ok((program, calls)) = reference::admit_run(&case.table, &case.list, case.text_len) {
+        if let Ok((program, calls)) = reference::admit_run(&case.table, &case.list, case.rules.given(), case.text_len) {
             let (text, _) = reference::run_calls(&program, &calls, &mut ());
             counts.add(&program, &calls, &text);
         }
@@ -600,7 +618,7 @@ fn run_depot(depot: &Depot) -> (String, Vec<Entry>) {
         list.push(call_row(*procedure, 65_535));
         list.extend(arguments.iter().map(|&number| argument_row(number)));
     }
-    let answer = reference::run_with_store(&depot.plan.bytes(), &write_rows(&list), 65_536);
+    let answer = reference::run_with_store(&depot.plan.bytes(), &write_rows(&list), None, 65_536);
     let (text, store) = answer.expect("not refused");
     (String::from_utf8(text).expect("plain text"), store)
 }
@@ -652,17 +670,19 @@ fn each_refusal_and_stop_comes_often() {
     let mut verdicts: BTreeMap<u32, usize> = BTreeMap::new();
     let (mut bytes, mut freezing) = (0, 0);
     for number in 0..2_000 {
-        let table = tables::table(1, number);
-        bytes += 4 + table.len();
-        let program = reference::admit(&table);
+        let TableCase { table, rules } = tables::case(1, number);
+        assert!(rules.bytes.len() <= MOST_BYTES);
+        bytes += 12 + table.len() + rules.bytes.len();
+        let program = reference::admit_under(&table, rules.given());
         freezing += usize::from(program.as_ref().is_ok_and(|program| program.code.contains(&Instr::Freeze)));
         *verdicts.entry(program.err().map_or(0, |refusal| refusal.0)).or_default() += 1;
     }
     assert!((200..verdicts[&0] - 100).contains(&freezing), "Freeze in {freezing} accepted tables");
     assert!((500..=900).contains(&verdicts[&0]), "{verdicts:?}");
     for number in TABLE_PASSES.iter().flat_map(|(_, refusals)| *refusals) {
-        assert!(verdicts.get(number).is_some_and(|&times| times >= 30), "{number}: {verdicts:?}");
+        assert!(verdicts.get(number).is_some_and(|&times| times >= 25), "{number}: {verdicts:?}");
     }
+    assert!((20..=22).all(|number| verdicts[&number] >= 80), "{verdicts:?}");
     assert!(bytes < 4_000_000, "{bytes} bytes");
 }
 
@@ -672,7 +692,7 @@ fn each_refusal_and_stop_comes_among_runs() {
     let mut texts = String::new();
     for number in 0..8_000 {
         let case = runs::case(1, number);
-        match reference::run(&case.table, &case.list, case.text_len) {
+        match reference::run(&case.table, &case.list, case.rules.given(), case.text_len) {
             Ok(text) => texts.push_str(std::str::from_utf8(&text).expect("plain text")),
             Err((number, _)) => *refusals.entry(number).or_insert(0) += 1,
         }
@@ -681,8 +701,9 @@ fn each_refusal_and_stop_comes_among_runs() {
         let times = texts.matches(&format!(" stop {stop} row ")).count();
         assert!(times >= 100, "{times} times stop {stop}");
     }
-    assert!((1..=19).all(|number| refusals.contains_key(&number)), "{refusals:?}");
-    assert!((15..=17).all(|number| refusals[&number] >= 200), "{refusals:?}");
+    assert!((1..=22).all(|number| refusals.contains_key(&number)), "{refusals:?}");
+    assert!([15, 16, 17, 20, 21, 22].iter().all(|number| refusals[number] >= 200), "{refusals:?}");
+    assert!(refusals.values().sum::<u64>() <= 3_200, "{refusals:?}");
 }
 
 /// A cause alone, with a dirty byte beside it, with more in its used bytes, and with both.
@@ -769,4 +790,205 @@ fn large_tables_are_accepted_too() {
         let plan = structured::plan(&mut rng, structured::LARGE);
         assert!(reference::judge(&plan.bytes()).is_ok(), "table {number}");
     }
+}
+
+// Rule files
+
+/// The pass against the paper's words, also on bytes that are not looked at where the number is 0.
+#[test]
+fn rule_files_are_judged_by_the_rows_that_cover_each_pair() {
+    let mut judged = 0;
+    for number in 0..6_000 {
+        let TableCase { table, rules } = tables::case(51, number);
+        let program = reference::admit(&table);
+        let verdict = reference::judge_under(&table, rules.given());
+        assert_eq!(reference::judge(&table), program.as_ref().map(|program| program.rows).map_err(|&refusal| refusal));
+        let Ok(program) = program else {
+            assert_eq!(verdict, reference::judge(&table));
+            continue;
+        };
+        let expected = RIGHT.refusal(&program, &rules.bytes);
+        assert_eq!(check_rules(&program, &rules.bytes).err(), expected, "table {number}");
+        assert_eq!(verdict.err(), expected.filter(|_| rules.has != 0), "table {number}");
+        judged += 1;
+    }
+    assert!(judged >= 2_400, "{judged} tables that no other pass refuses");
+}
+
+#[test]
+fn made_tables_tell_readings_of_paper_7_apart() {
+    let mut counts = RuleCounts::default();
+    let (mut files, mut verdicts) = (0, BTreeMap::<u32, u64>::new());
+    for number in 0..8_000 {
+        let TableCase { table, rules } = tables::case(52, number);
+        let program = reference::admit(&table);
+        counts.add(program.as_ref().ok(), &rules);
+        if rules.has != 0 && program.is_ok() {
+            files += 1;
+            let verdict = reference::judge_under(&table, rules.given());
+            *verdicts.entry(verdict.err().map_or(0, |refusal| refusal.0)).or_default() += 1;
+        }
+    }
+    assert!((3_400..=4_600).contains(&counts.files) && counts.refused_before >= 300, "{counts:?}");
+    assert!(counts.other_numbers >= 500 && counts.bytes_only >= 250, "{counts:?}");
+    assert!((35..=47).contains(&(100 * verdicts[&0] / files)), "{verdicts:?}");
+    assert!((20..=22).all(|number| 100 * verdicts[&number] / files >= 14), "{verdicts:?}");
+    for (name, count) in counts.kinds_by_name() {
+        assert!(count >= 3, "{name}: {counts:?}");
+    }
+    for (reading, count) in rule_readings::WRONG_READINGS.iter().zip(counts.otherwise) {
+        assert!(count >= 12, "{}: {counts:?}", reading.name);
+    }
+    for ((reading, _), count) in rule_readings::WRONG_NUMBERS.iter().zip(counts.misnumbered) {
+        assert!(count >= 25, "{reading}: {counts:?}");
+    }
+}
+
+#[test]
+fn made_runs_are_run_and_refused_under_files() {
+    let mut counts = RuleRunCounts::default();
+    let mut through = 0;
+    for number in 0..4_000 {
+        let case = runs::case(53, number);
+        assert!(case.rules.bytes.len() <= MOST_BYTES);
+        match reference::admit_run(&case.table, &case.list, case.rules.given(), case.text_len) {
+            Ok((program, calls)) => {
+                counts.add_through(&case, &program, &calls);
+                through += 1;
+            }
+            Err(refusal) => counts.add_refused(&case, refusal),
+        }
+    }
+    assert!(through >= 2_400, "{through} runs through");
+    assert!((1_800..=2_200).contains(&counts.files) && counts.through >= 800, "{counts:?}");
+    assert!(counts.forbidding >= 300 && counts.bad_list >= 60 && counts.short_text >= 20, "{counts:?}");
+    assert!(counts.before_list >= 30 && counts.before_text >= 10, "{counts:?}");
+    assert!(counts.between >= 3_000 && counts.within >= 3_000, "{counts:?}");
+}
+
+/// Looks at each Call that comes up and at each procedure that is entered, under the rows of a rule file.
+struct Permitted<'f> {
+    rules: &'f [Rule],
+    frames: usize,
+    calls: u64,
+    entered: u64,
+}
+
+impl Permitted<'_> {
+    /// The pair stands under one row, which allows it.
+    fn check(&self, caller: u8, called: u8) {
+        let covering: Vec<&Rule> = self.rules.iter().filter(|rule| rule.covers(caller, called)).collect();
+        assert!(matches!(covering[..], [Rule { allows: true, .. }]), "{caller} calls {called} by {covering:?}");
+    }
+}
+
+impl Watch for Permitted<'_> {
+    fn comes_up(&mut self, machine: &Machine) {
+        let frames = machine.frame_count();
+        let module = |depth: usize| machine.program().procedure(machine.frame_procedure(depth)).module;
+        if let Instr::Call(callee) = machine.upcoming() {
+            self.check(module(frames - 1), machine.program().procedure(callee).module);
+            self.calls += 1;
+        }
+        if frames > self.frames && frames > 1 {
+            self.check(module(frames - 2), module(frames - 1));
+            self.entered += 1;
+        }
+        self.frames = frames;
+    }
+}
+
+#[test]
+fn no_procedure_is_entered_by_a_forbidden_pair() {
+    let (mut calls, mut entered) = (0, 0);
+    for number in 0..4_000 {
+        let case = runs::case(54, number);
+        let Some(file) = case.rules.given() else { continue };
+        let Ok((program, list)) = reference::admit_run(&case.table, &case.list, Some(file), case.text_len) else {
+            continue;
+        };
+        let rules: Vec<Rule> = reference::row::read_rows(file).iter().filter_map(Rule::new).collect();
+        let mut machine = Machine::new(&program);
+        for call in list {
+            let mut permitted = Permitted { rules: &rules, frames: 0, calls: 0, entered: 0 };
+            machine.call_watched(call.procedure, &call.arguments, call.budget.min(3_000), &mut permitted);
+            calls += permitted.calls;
+            entered += permitted.entered;
+        }
+    }
+    assert!(calls >= entered && entered >= 10_000, "{calls} Calls came up, {entered} procedures entered");
+}
+
+#[test]
+fn files_get_what_they_are_meant_for() {
+    for aim in [Aim::Good, Aim::Malformed, Aim::Unfit, Aim::Forbidden] {
+        let (mut hits, mut tried) = (0, 0);
+        for item in 0..1_500 {
+            let mut rng = Rng::stream(55, 0, item);
+            let table = if item % 3 == 0 { tables::accepted(&mut rng) } else { callers::plan(&mut rng).bytes() };
+            let program = reference::admit(&table).expect("accepted");
+            if aim == Aim::Forbidden && call_rows(&program).next().is_none() {
+                continue;
+            }
+            let file = Ground::of(&table).file(&mut rng, aim);
+            let number = reference::judge_under(&table, Some(&file)).err().map_or(0, |refusal| refusal.0);
+            let meant = match aim {
+                Aim::Good => 0,
+                Aim::Malformed => 20,
+                Aim::Unfit => 21,
+                Aim::Forbidden => 22,
+            };
+            tried += 1;
+            hits += usize::from(number == meant);
+            assert!(
+                number == meant || matches!(aim, Aim::Malformed | Aim::Forbidden),
+                "{aim:?}, item {item}: {number}"
+            );
+        }
+        // Random bytes may be well formed, and a file that forbids at random may forbid nothing that is needed.
+        assert!(hits * 100 >= tried * 85, "{aim:?}: {hits} of {tried}");
+    }
+}
+
+#[test]
+fn parted_squares_have_one_row_for_each_pair() {
+    for item in 0..2_000 {
+        let mut rng = Rng::stream(56, 0, item);
+        let last = rng.below(16) as u8;
+        let pair = (rng.within(0, last.into()) as u8, rng.within(0, last.into()) as u8);
+        let around = squares::around(&mut rng, last, pair);
+        assert_eq!(around[0], squares::single(pair));
+        for rules in [around, squares::parted(&mut rng, last)] {
+            assert!(rules.len() <= 256);
+            for (caller, called) in (0..16).flat_map(|caller| (0..16).map(move |called| (caller, called))) {
+                let covering = rules.iter().filter(|rule| rule.covers(caller, called)).count();
+                assert_eq!(covering, usize::from(caller <= last && called <= last), "item {item}: {rules:?}");
+            }
+        }
+        if last > 0 {
+            let past = squares::past(&mut rng, last);
+            assert!(past.callers.0 >= last || past.called.0 >= last);
+        }
+    }
+}
+
+#[test]
+fn modules_that_call_one_another_are_accepted() {
+    let (mut between, mut within, mut unreached, mut empty) = (0, 0, 0, 0);
+    let mut modules = BTreeSet::new();
+    for item in 0..1_000 {
+        let table = callers::plan(&mut Rng::stream(57, 0, item)).bytes();
+        let program = reference::admit(&table).expect("accepted");
+        let reached = reached_rows(&program);
+        modules.insert(program.trusted.len());
+        for call in call_rows(&program) {
+            unreached += usize::from(!reached[call.row]);
+            within += usize::from(call.caller == call.called);
+            between += usize::from(call.caller != call.called);
+        }
+        let has_procedures = |module: usize| program.procedures.iter().any(|one| usize::from(one.module) == module);
+        empty += usize::from(!(0..program.trusted.len()).all(has_procedures));
+    }
+    assert!([1, 2, 3, 4, 16].iter().all(|count| modules.contains(count)), "{modules:?}");
+    assert!(between >= 3_000 && within >= 1_000 && unreached >= 1_000 && empty >= 200);
 }

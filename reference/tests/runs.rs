@@ -8,7 +8,7 @@ use reference::row::{write_rows, Row};
 type Refused = (u32, usize);
 
 fn run(table: &[Row], list: &[Row], buffer: usize) -> Result<Vec<u8>, Refused> {
-    reference::run(&write_rows(table), &write_rows(list), buffer)
+    reference::run(&write_rows(table), &write_rows(list), None, buffer)
 }
 
 #[track_caller]
@@ -62,12 +62,12 @@ fn good_lists() {
 fn list_lengths() {
     let table = write_rows(&some_procedures());
     let list = [call_of(4, 1).to_bytes(); 257].concat();
-    assert_eq!(reference::run(&table, &list, BUFFER), Err((15, 0)));
-    assert_eq!(reference::run(&table, &list[..4_095], BUFFER), Err((15, 0)));
-    assert_eq!(reference::run(&table, &list[..1], BUFFER), Err((15, 0)));
+    assert_eq!(reference::run(&table, &list, None, BUFFER), Err((15, 0)));
+    assert_eq!(reference::run(&table, &list[..4_095], None, BUFFER), Err((15, 0)));
+    assert_eq!(reference::run(&table, &list[..1], None, BUFFER), Err((15, 0)));
     // A bad row of a list that is too long is not looked at.
     let zeros = vec![0; 4_112];
-    assert_eq!(reference::run(&table, &zeros, BUFFER), Err((15, 0)));
+    assert_eq!(reference::run(&table, &zeros, None, BUFFER), Err((15, 0)));
 }
 
 #[test]

@@ -9,7 +9,7 @@ use native.Mathlib.Omega.{arith}
 use borrow.Author.Tests.{eqb-true, not-true}
 use lib.Dec.{eqb}
 use lib.ListN.{getD, List·getD-eq-default}
-use Rattle.laws.proofs.Tests.{and-both}
+use Rattle.laws.proofs.Tests.{and-both, test-fails}
 use Rattle.table.specs.Format.{opCall, maxLocals, maxResults}
 use Rattle.table.specs.Rows.{rowCount, rowAt}
 use Rattle.table.specs.Index.{indexOf}
@@ -32,17 +32,12 @@ use Rattle.acceptance.proofs.Guest.{no-fresh}
 use Rattle.acceptance.proofs.Shown.{flow-at, arrived}
 use Rattle.acceptance.proofs.Helpers.{formed, walk-in, walkable}
 
--- what is not true is false
-pub not-true-false : (b : Bool) → (b ≡ true → ⊥) → b ≡ false
-not-true-false true h = absurd (h refl)
-not-true-false false h = refl
-
 -- none is marked if none of the first 16 is, and none is past them
 all-clean : (marked : ℕ → Bool) → ((l : ℕ) → l < 16 → marked l ≡ true → ⊥) → ((l : ℕ) → 16 ≤ l → marked l ≡ false) → (l : ℕ) → marked l ≡ false
 all-clean marked first past l = go (decLt l 16)
   where
     go : Dec (l < 16) → marked l ≡ false
-    go (yes h) = not-true-false (marked l) (first l h)
+    go (yes h) = test-fails (marked l) (first l h)
     go (no h) = past l (omega arith)
 
 -- whether a procedure stands in a guest module

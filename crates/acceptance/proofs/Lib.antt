@@ -22,3 +22,4 @@ pub mod ProcedureRows
 pub mod RowPlaces
 pub mod RowCauses
 pub mod RowRefusals
+pub mod RuleRefusals

@@ -5,7 +5,7 @@ use mathlib.Core.Bool.{Bool, false, cond, false≢true}
 use mathlib.Core.List.{List, []}
 use lib.Dec.{eqb}
 use lib.ListN.{getD}
-use Rattle.laws.proofs.Tests.{and-both}
+use Rattle.laws.proofs.Tests.{and-both, test-fails}
 use Rattle.table.specs.Format.{opCall}
 use Rattle.table.specs.Index.{indexOf}
 use Rattle.table.specs.Rows.{rowCount}
@@ -25,14 +25,13 @@ use Rattle.judging.specs.Judging.{UpToOperands}
 use Rattle.acceptance.specs.Checked.{WalkOf}
 use Rattle.acceptance.specs.Refusals.{operand, LeakCause, given-away, returned, Earns}
 use Rattle.acceptance.specs.Helpers.{WalkUnder, Closed, NoneLeaves}
-use Rattle.acceptance.proofs.Guests.{not-true-false}
 use Rattle.acceptance.proofs.Refusals.{leaks-accepted}
 use Rattle.acceptance.proofs.Helpers.{formed, smallest}
 
 module _ (t : List ℕ) (a : UpToOperands t) where
   -- if walks under no marks give none to helpers, and private procedures return none, then nothing is marked
   pub none-needed : Closed t [] → (v : ℕ) → getD (marksIn t) v false ≡ false
-  none-needed c v = not-true-false _ (λ z. false≢true (smallest t a .least [] c v z))
+  none-needed c v = test-fails _ (λ z. false≢true (smallest t a .least [] c v z))
 
   -- without private procedures nothing is marked
   pub all-public : ((q : ℕ) → q < indexOf t .procedures → isPrivate t (own t q) ≡ false) → (v : ℕ) → getD (marksIn t) v false ≡ false

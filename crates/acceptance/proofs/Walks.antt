@@ -4,6 +4,7 @@ use mathlib.Core.Path.{_≡_, refl}
 use mathlib.Core.Bool.{Bool, true, false}
 use mathlib.Core.List.{List}
 use lib.ListN.{length, getD}
+use Rattle.laws.proofs.Tests.{test-fails}
 use Rattle.table.specs.declared.Verdict.the-variants.{Accepted}
 use Rattle.table.specs.Rows.{rowCount}
 use Rattle.table.specs.Index.{indexOf}
@@ -17,7 +18,7 @@ use Rattle.acceptance.specs.Checked.{WalkOf, Unmarked, Checked}
 use Rattle.acceptance.specs.Refusals.{HandsMarked, LocalCause, used-empty, stored-over, left-behind, LeakCause, given-away, returned}
 use Rattle.acceptance.proofs.Shown.{arrived}
 use Rattle.acceptance.proofs.Helpers.{smallest}
-use Rattle.acceptance.proofs.Guests.{not-true-false, guest-clean}
+use Rattle.acceptance.proofs.Guests.{guest-clean}
 use Rattle.acceptance.proofs.Causes.{needs-three}
 use Rattle.acceptance.proofs.Refusals.{locals-accepted, leaks-accepted}
 
@@ -49,7 +50,7 @@ module _ (t : List ℕ) (a : AcceptedTable t) (q : ℕ) (there : q < indexOf t .
   none-taken ks none before after e = go (inTrusted t (indexOf t) (own t q)) refl
     where
       go : (b : Bool) → inTrusted t (indexOf t) (own t q) ≡ b → getD ms (length after) false ≡ false
-      go true tr = not-true-false _ (λ z. none tr (before, after, e, (k, ls, ms, w, z)))
+      go true tr = test-fails _ (λ z. none tr (before, after, e, (k, ls, ms, w, z)))
       go false g = guest-clean t (up-to-operands a) q there w g .1 (length after)
 
 -- what an accepted table gives at the end of every walk

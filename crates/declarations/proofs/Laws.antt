@@ -3,7 +3,6 @@ use Prim.Native.Nat.{ℕ, zero, suc, _+_, _<_, _≤_}
 use mathlib.Core.Path.{_≡_, refl, sym, ap, _∙_}
 use mathlib.Core.Bool.{Bool, true, false, cond, not, _||_, false≢true}
 use mathlib.Core.List.{List, [], _∷_, _++_}
-use native.Mathlib.Nat.{zero-add}
 use native.Mathlib.Numerals.{add-one}
 use native.Mathlib.Decide.{decLt}
 use native.Mathlib.Omega.{arith}
@@ -12,7 +11,7 @@ use lib.Dec.{ltb}
 use lib.ListN.{length, getD, take, drop, length-take, length-append, drop-of-length-le}
 use lib.Seq.{drop-cons, getD-take}
 use Rattle.laws.specs.Lists.{hits, count, nth}
-use Rattle.laws.proofs.First.{clean-if}
+use Rattle.laws.proofs.First.{clean-all}
 use Rattle.laws.proofs.Lists.{getD-snoc-old, getD-snoc-new, entries-at, entryOf-at}
 use Rattle.table.specs.declared.Row.{Row}
 use Rattle.table.specs.declared.Verdict.{Verdict}
@@ -158,4 +157,4 @@ module _ (t : List ℕ) (p : ProcedureEntry) where
 
     pub limited-out : overLimits t p ≡ true → codeVerdict (limited t p fault) (p .code) (rowCount (codeOf t p)) ≡ Accepted (rowCount (codeOf t p))
     unfolding limited codeVerdict
-    limited-out e = clean-if Accepted _ _ 0 (rowCount (codeOf t p)) (λ j lo hi. rw e) ∙ ap Accepted (zero-add (rowCount (codeOf t p)))
+    limited-out e = clean-all Accepted _ _ (rowCount (codeOf t p)) (λ j h. rw e)

@@ -1,19 +1,20 @@
--- A pass over procedures accepts a table if, and only if, no instruction of a procedure is faulty; else it tells the first one.
+-- A pass over procedures accepts a table if, and only if, no instruction of a procedure is faulty; else it tells the first one. A pass over rows does the same of rows.
 use Prim.Native.Nat.{ℕ, zero, suc, _+_, _<_}
-use mathlib.Core.Path.{_≡_, refl, sym, ap, ap₂}
+use mathlib.Core.Path.{_≡_, refl, sym, ap, ap₂, _∙_}
+use mathlib.Core.Bool.{Bool, true, false, cond}
 use mathlib.Core.List.{List, [], _∷_}
 use mathlib.Core.Logic.{_⊎_, inl, inr, ⊎-elim}
 use native.Mathlib.Nat.{add-zero, zero-add}
 use native.Mathlib.Omega.{arith}
 use lib.ListN.{length, getD, length-take}
 use lib.Seq.{getD-take}
-use Rattle.laws.proofs.First.{all-fine, clean-if, clean-or-stops}
+use Rattle.laws.proofs.First.{Stops, all-fine, clean-if, clean-all, clean-or-stops}
 use Rattle.table.specs.declared.Verdict.{Verdict}
 use Rattle.table.specs.declared.Verdict.the-variants.{Accepted, Refused}
 use Rattle.table.specs.declared.index.Index.{Index}
 use Rattle.table.specs.declared.index.ProcedureEntry.{ProcedureEntry}
 use Rattle.table.specs.Rows.{rowCount}
-use Rattle.table.specs.Verdicts.{numberOf, valueOf, andThen}
+use Rattle.table.specs.Verdicts.{numberOf, valueOf, andThen, passOver}
 use Rattle.table.specs.Index.{noProcedure}
 use Rattle.declarations.specs.Program.{codeOf, codeVerdict, overProcedures, codePass, procedureIn}
 use Rattle.declarations.proofs.Laws.{proceduresOf}
@@ -26,6 +27,11 @@ refused-accepted e = let z : _≡_ {A = ℕ} 0 1 = cc in omega arith
 pub both-accept : (v later : Verdict) (n : ℕ) → andThen v later ≡ Accepted n → (v ≡ Accepted (valueOf v)) × (later ≡ Accepted n)
 both-accept (Accepted rows) later n e = (refl, e)
 both-accept (Refused number row) later n e = absurd (refused-accepted e)
+
+-- and what a test lets through
+pub let-through : (b : Bool) (number row : ℕ) (v : Verdict) (n : ℕ) → cond b (Refused number row) v ≡ Accepted n → (b ≡ false) × (v ≡ Accepted n)
+let-through true number row v n e = absurd (refused-accepted e)
+let-through false number row v n e = (refl, e)
 
 -- the instructions of one procedure
 module _ (f : ℕ → ℕ) (start n : ℕ) where
@@ -93,6 +99,32 @@ refused-number e = ap numberOf e
 
 pub refused-row : {a b c d : ℕ} → Refused a b ≡ Refused c d → b ≡ d
 refused-row e = ap valueOf e
+
+-- A pass over n rows: what it accepts has no faulty row, and is accepted with its number of rows.
+module _ (f : ℕ → ℕ) (n : ℕ) where
+  pub over-fine : {m : ℕ} → passOver f n ≡ Accepted m → (i : ℕ) → i < n → f i ≡ 0
+  over-fine {m} e i h = all-fine Accepted Refused f (λ n k i. refused-accepted) m 0 n e i (omega arith) (omega arith)
+
+  pub over-rows : (m : ℕ) → passOver f n ≡ Accepted m → passOver f n ≡ Accepted n
+  over-rows m e = clean-all Accepted Refused f n (over-fine e)
+
+  -- the first faulty row, and its number
+  pub record FirstRow (number row : ℕ) : Type 0 where
+    pub inside : row < n
+    pub number-is : f row ≡ number
+    pub faulty : f row ≡ 0 → ⊥
+    pub before : (i : ℕ) → i < row → f i ≡ 0
+
+  -- that is what it refuses
+  pub over-first : {number row : ℕ} → passOver f n ≡ Refused number row → FirstRow number row
+  over-first {number} {row} e = go (clean-or-stops Accepted Refused f 0 n)
+    where
+      go : (passOver f n ≡ Accepted (0 + n)) ⊎ Stops Accepted Refused f 0 n → FirstRow number row
+      go (inl c) = absurd (refused-accepted (sym e ∙ c))
+      go (inr s) =
+          let same : Refused (f (s .at)) (s .at) ≡ Refused number row = sym (s .told) ∙ e in
+          let first : FirstRow (f (s .at)) (s .at) = record { inside = omega (arith, s .inside); number-is = refl; faulty = s .faulty; before = λ i h. s .before i (omega arith) h } in
+          rw (refused-number same, refused-row same) at first
 
 -- instruction i of procedure q, whose entry is p, is its first faulty one, and has this number and this row
 pub record FirstOf (fault : ℕ → ProcedureEntry → ℕ → ℕ) (t : List ℕ) (q : ℕ) (p : ProcedureEntry) (i number row : ℕ) : Type 0 where

@@ -1,14 +1,14 @@
 -- The rules answer each example as the table says, by computation: part by part, since the checker bounds what one theorem may compute.
 use mathlib.Core.Path.{_≡_, refl}
 use mathlib.Core.List.{List, _++_, map, map-append}
-use Rattle.judging.specs.Judging.{judgeOf}
+use Rattle.judging.specs.Judging.{judgeUnder}
 use Rattle.semantics.specs.Run.{runOf}
-use Rattle.examples.specs.Examples.{Example, Answer, judgingRows, judgingValues, judgingWalks, judgingMarks, judgingOverwritten, judgingReadOnly, judgingHanded, judgingHelpers, judgingGiven, judgingRounds, runningCalls, runningKeys, runningLimits, examples, line, given, expected, answered, answers}
+use Rattle.examples.specs.Examples.{Example, Answer, judgingRows, judgingValues, judgingWalks, judgingMarks, judgingOverwritten, judgingReadOnly, judgingHanded, judgingHelpers, judgingGiven, judgingRounds, judgingFile, judgingPairs, runningRules, runningCalls, runningKeys, runningLimits, examples, line, given, expected, answered, answers}
 use Rattle.examples.proofs.Rules.{rules}
 
 -- what the rules answer to an example; that they answer some examples as stated
 abbrev told : Example → Answer
-told = answered judgeOf runOf
+told = answered judgeUnder runOf
 
 Hold : List Example → Type 0
 Hold es = map told es ≡ map given es
@@ -53,6 +53,18 @@ rounds-hold : Hold judgingRounds
 unfolding Hold rules judgingRounds
 rounds-hold = refl
 
+file-hold : Hold judgingFile
+unfolding Hold rules judgingFile
+file-hold = refl
+
+pairs-hold : Hold judgingPairs
+unfolding Hold rules judgingPairs
+pairs-hold = refl
+
+under-hold : Hold runningRules
+unfolding Hold rules runningRules line
+under-hold = refl
+
 calls-hold : Hold runningCalls
 unfolding Hold rules runningCalls line
 calls-hold = refl
@@ -69,9 +81,9 @@ both : (xs ys : List Example) → Hold xs → Hold ys → Hold (xs ++ ys)
 unfolding Hold
 both xs ys hx hy = rw (map-append told xs ys, map-append given xs ys, hx, hy) refl
 
-parts-hold : Hold (judgingRows ++ judgingValues ++ judgingWalks ++ judgingMarks ++ judgingOverwritten ++ judgingReadOnly ++ judgingHanded ++ judgingHelpers ++ judgingGiven ++ judgingRounds ++ runningCalls ++ runningKeys ++ runningLimits)
-parts-hold = both _ _ (both _ _ (both _ _ (both _ _ (both _ _ (both _ _ (both _ _ (both _ _ (both _ _ (both _ _ (both _ _ (both _ _ rows-hold values-hold) walks-hold) marks-hold) overwritten-hold) read-only-hold) handed-hold) helpers-hold) given-hold) rounds-hold) calls-hold) keys-hold) limits-hold
+parts-hold : Hold (judgingRows ++ judgingValues ++ judgingWalks ++ judgingMarks ++ judgingOverwritten ++ judgingReadOnly ++ judgingHanded ++ judgingHelpers ++ judgingGiven ++ judgingRounds ++ judgingFile ++ judgingPairs ++ runningRules ++ runningCalls ++ runningKeys ++ runningLimits)
+parts-hold = both _ _ (both _ _ (both _ _ (both _ _ (both _ _ (both _ _ (both _ _ (both _ _ (both _ _ (both _ _ (both _ _ (both _ _ (both _ _ (both _ _ (both _ _ rows-hold values-hold) walks-hold) marks-hold) overwritten-hold) read-only-hold) handed-hold) helpers-hold) given-hold) rounds-hold) file-hold) pairs-hold) under-hold) calls-hold) keys-hold) limits-hold
 
-pub all-hold : answers judgeOf runOf ≡ expected
+pub all-hold : answers judgeUnder runOf ≡ expected
 unfolding Hold examples answers expected
 all-hold = parts-hold

@@ -1,29 +1,39 @@
--- One table of examples: the bytes of a table and what judging them answers, or a table and a call list and what running them prints.
+-- One table of examples: the bytes of a table and what judging them answers, or a table and a call list and what running them prints, with a rule file or without.
 -- The running ones do every opcode and meet every stop.
 use Prim.Native.Nat.{ℕ, _-_}
 use mathlib.Core.List.{List, [], _∷_, _++_, map}
-use lib.ListN.{length, take, drop, replicate}
+use lib.ListN.{length, take, drop, set, replicate}
 use Prim.Native.String.{String}
 use Rattle.table.specs.declared.Verdict.{Verdict}
 use Rattle.table.specs.declared.Verdict.the-variants.{Accepted, Refused}
 use Rattle.semantics.specs.Ascii.{ascii}
 use Rattle.semantics.specs.Run.{Ran, minText}
-use Rattle.examples.specs.Tables.{row, table, trusted, guest, type, number, guarded, public, private, parameter, local, code, pop, loadConst, mvLoc, cpLoc, stLoc, exists, moveFrom, unpack, borrowFld, readRef, pack, moveTo, callProcedure, ret, branch, branchCond, subtract, call, argument, rowsS, rowsT, rowsRound, with-row, without-row, times, rowsLent, rowsShown, rowsTakesTwo, rowsMarkedOnFallThrough, rowsMarkedOnJump, rowsOverwrittenOnce, rowsOverwrittenTwice, rowsOps, rowsLoop, rowsClosed, rowsWritten, rowsTill, callsTill, rowsTwo, rowsKeys, rowsBare, rowsTypes, rowsNested, rowsGuest, callsGuest, rowsRefilled, rowsEmptied, rowsReturned, rowsStale, rowsDeep, rowsMany, rowsFull, result, borrowLoc, writeRef, freeze, rowsLabel, callsLabel, rowsSeen, rowsFrozenStale, rowsTakesOne, rowsHelped, callsHelped, rowsCrossed, rowsRotated, rowsSwapped, rowsJumpedOver, rowsDropped, rowsGivenOnce, rowsReturnedAt, rowsCalledTwice, rowsThirteen, rowsAdded, callsAdded}
+use Rattle.examples.specs.Tables.{row, table, trusted, guest, type, number, guarded, public, private, parameter, local, code, pop, loadConst, mvLoc, cpLoc, stLoc, exists, moveFrom, unpack, borrowFld, readRef, pack, moveTo, callProcedure, ret, branch, branchCond, subtract, call, argument, rowsS, rowsT, rowsRound, with-row, without-row, times, rowsLent, rowsShown, rowsTakesTwo, rowsMarkedOnFallThrough, rowsMarkedOnJump, rowsOverwrittenOnce, rowsOverwrittenTwice, rowsOps, rowsLoop, rowsClosed, rowsWritten, rowsTill, callsTill, rowsTwo, rowsKeys, rowsBare, rowsTypes, rowsNested, rowsGuest, callsGuest, rowsRefilled, rowsEmptied, rowsReturned, rowsStale, rowsDeep, rowsMany, rowsFull, result, borrowLoc, writeRef, freeze, rowsLabel, callsLabel, rowsSeen, rowsFrozenStale, rowsTakesOne, rowsHelped, callsHelped, rowsCrossed, rowsRotated, rowsSwapped, rowsJumpedOver, rowsDropped, rowsGivenOnce, rowsReturnedAt, rowsCalledTwice, rowsThirteen, rowsAdded, callsAdded, rule, allow, forbid, rowsGuests, callsGuests, rulesGuests, rowsWithin}
 
--- an example: the bytes of a table and its verdict; or a table, a call list and the length of a text buffer, with the answer and the text
+-- an example: whether there is a rule file, and its bytes; the bytes of a table and its verdict, or a table, a call list and the length of a text buffer, with the answer and the text
 pub data Example : Type 0 where
-  judging : (bytes : List ℕ) → Verdict → Example
-  running : (table list : List ℕ) → (room : ℕ) → Verdict → (text : List ℕ) → Example
+  judging : (has : ℕ) (rules bytes : List ℕ) → Verdict → Example
+  running : (has : ℕ) (rules table list : List ℕ) → (room : ℕ) → Verdict → (text : List ℕ) → Example
 
+-- a table that is judged, without a rule file and under one
 abbrev pub gives : List ℕ → Verdict → Example
-gives bytes verdict = judging bytes verdict
+gives bytes verdict = judging 0 [] bytes verdict
 
--- a list that is run, and one that is refused
+abbrev pub givesUnder : List ℕ → List ℕ → Verdict → Example
+givesUnder rules bytes verdict = judging 1 rules bytes verdict
+
+-- a list that is run, and one that is refused, without a rule file and under one
 abbrev pub prints : List ℕ → List ℕ → List ℕ → Example
-prints t l text = running t l minText (Accepted (length text)) text
+prints t l text = running 0 [] t l minText (Accepted (length text)) text
 
 abbrev pub refuses : List ℕ → List ℕ → ℕ → ℕ → ℕ → Example
-refuses t l room number row = running t l room (Refused number row) []
+refuses t l room number row = running 0 [] t l room (Refused number row) []
+
+abbrev pub printsUnder : List ℕ → List ℕ → List ℕ → List ℕ → Example
+printsUnder rules t l text = running 1 rules t l minText (Accepted (length text)) text
+
+abbrev pub refusesUnder : List ℕ → List ℕ → List ℕ → ℕ → ℕ → ℕ → Example
+refusesUnder rules t l room number row = running 1 rules t l room (Refused number row) []
 
 -- a line of text
 unfoldable pub line : String → List ℕ
@@ -370,9 +380,83 @@ runningLimits =
     ∷ prints (table rowsFull) (table (call 0 1000 ∷ argument 64 ∷ call 0 1000 ∷ argument 65 ∷ [])) (line "call 0 stop 33 row 15" ++ line "call 1 stop 38 row 6")
     ∷ []
 
+-- the rule file: refusal 20
+unfoldable pub judgingFile : List Example
+judgingFile =
+    -- S under one row for all, which allows or forbids: nothing in S calls
+    givesUnder (table (allow 0 15 0 15 ∷ [])) (table rowsS) (Accepted 10)
+    ∷ givesUnder (table (forbid 0 15 0 15 ∷ [])) (table rowsS) (Accepted 10)
+    -- 0 says that there is no file, whatever its bytes; every other number that there is one
+    ∷ judging 0 (1 ∷ []) (table rowsS) (Accepted 10)
+    ∷ judging 1 [] (table rowsS) (Refused 20 0)
+    ∷ judging 18446744073709551615 [] (table rowsS) (Refused 20 0)
+    -- the length: a row less one byte, one byte more
+    ∷ givesUnder (take 15 (allow 0 15 0 15)) (table rowsS) (Refused 20 0)
+    ∷ givesUnder (allow 0 15 0 15 ++ (0 ∷ [])) (table rowsS) (Refused 20 0)
+    -- byte 0, byte 1, and the bytes that are zero
+    ∷ givesUnder (2 ∷ drop 1 (allow 0 15 0 15)) (table rowsS) (Refused 20 0)
+    ∷ givesUnder (0 ∷ drop 1 (allow 0 15 0 15)) (table rowsS) (Refused 20 0)
+    ∷ givesUnder (rule 2 0 15 0 15) (table rowsS) (Refused 20 0)
+    ∷ givesUnder (set (allow 0 15 0 15) 2 1) (table rowsS) (Refused 20 0)
+    ∷ givesUnder (set (allow 0 15 0 15) 3 1) (table rowsS) (Refused 20 0)
+    ∷ givesUnder (set (allow 0 15 0 15) 8 1) (table rowsS) (Refused 20 0)
+    ∷ givesUnder (set (allow 0 15 0 15) 11 1) (table rowsS) (Refused 20 0)
+    ∷ givesUnder (set (allow 0 15 0 15) 15 255) (table rowsS) (Refused 20 0)
+    -- the ranges: the first above the last, module 16
+    ∷ givesUnder (allow 1 0 0 15) (table rowsS) (Refused 20 0)
+    ∷ givesUnder (allow 0 15 1 0) (table rowsS) (Refused 20 0)
+    ∷ givesUnder (allow 0 16 0 15) (table rowsS) (Refused 20 0)
+    ∷ givesUnder (allow 0 15 0 16) (table rowsS) (Refused 20 0)
+    ∷ givesUnder (allow 16 16 0 15) (table rowsS) (Refused 20 0)
+    -- the lowest bad row is told; before 21, and after the passes over the table
+    ∷ givesUnder (table (allow 0 0 0 0 ∷ rule 2 0 0 0 0 ∷ allow 1 0 0 0 ∷ [])) (table rowsS) (Refused 20 1)
+    ∷ givesUnder (table (rule 2 0 15 0 15 ∷ [])) (table (with-row 9 pop rowsS)) (Refused 5 3)
+    ∷ []
+
+-- its pairs and the Calls of a table: refusals 21 and 22
+unfoldable pub judgingPairs : List Example
+judgingPairs =
+    -- 21: the one pair of S under no row; under two, which agree; the called module is asked too
+    givesUnder (table (allow 1 15 0 15 ∷ [])) (table rowsS) (Refused 21 0)
+    ∷ givesUnder (table (allow 0 15 0 15 ∷ allow 0 0 0 0 ∷ [])) (table rowsS) (Refused 21 0)
+    ∷ givesUnder (table (allow 0 15 1 15 ∷ [])) (table rowsS) (Refused 21 0)
+    -- rows past the modules that are there: none needed, and several do no harm
+    ∷ givesUnder (table (allow 0 0 0 0 ∷ [])) (table rowsS) (Accepted 10)
+    ∷ givesUnder (table (allow 0 0 0 15 ∷ allow 1 15 0 15 ∷ forbid 1 15 0 15 ∷ [])) (table rowsS) (Accepted 10)
+    -- two modules: the pairs (0, 1) and (1, 0) are two, and the lowest is told; a pair that no Call uses is asked too
+    ∷ givesUnder (table (allow 0 0 0 0 ∷ allow 1 1 1 1 ∷ [])) (table (guest ∷ guest ∷ [])) (Refused 21 1)
+    ∷ givesUnder (table (allow 0 0 0 1 ∷ allow 1 1 1 1 ∷ [])) (table (guest ∷ guest ∷ [])) (Refused 21 16)
+    ∷ givesUnder (table (allow 0 1 0 1 ∷ [])) (table (guest ∷ guest ∷ [])) (Accepted 2)
+    -- 22: module 3 calls module 1 at row 24; without the file, and without module 3, the table is accepted
+    ∷ givesUnder (table rulesGuests) (table rowsGuests) (Refused 22 24)
+    ∷ gives (table rowsGuests) (Accepted 26)
+    ∷ givesUnder (table rulesGuests) (take 336 (table rowsGuests)) (Accepted 21)
+    -- forbidden the other way round only: module 1 may not call module 3
+    ∷ givesUnder (table (allow 0 0 0 15 ∷ forbid 1 1 0 15 ∷ allow 2 15 0 15 ∷ [])) (table rowsGuests) (Accepted 26)
+    -- both Calls are forbidden: the lowest row; no row for the pair (2, 1): 21 before 22
+    ∷ givesUnder (table (forbid 0 15 0 15 ∷ [])) (table rowsGuests) (Refused 22 19)
+    ∷ givesUnder (table (without-row 2 rulesGuests)) (table rowsGuests) (Refused 21 33)
+    -- a Call within one module, which no walk reaches
+    ∷ givesUnder (table (forbid 0 0 0 0 ∷ [])) (table rowsWithin) (Refused 22 5)
+    ∷ givesUnder (table (allow 0 0 0 0 ∷ [])) (table rowsWithin) (Accepted 7)
+    ∷ []
+
+-- running under a rule file: the entry from the list is no pair; the file is asked before the list
+unfoldable pub runningRules : List Example
+runningRules =
+    printsUnder (table (allow 0 15 0 15 ∷ [])) (table rowsGuests) (table callsGuests) (line "call 0 done" ++ line "call 1 done 65" ++ line "store 0 7 500")
+    -- a guest that calls where it may, under a file that forbids another pair; a Call within one module
+    ∷ printsUnder (table rulesGuests) (take 336 (table rowsGuests)) (take 32 (table callsGuests)) (line "call 0 done" ++ line "store 0 7 500")
+    ∷ printsUnder (table (allow 0 0 0 0 ∷ [])) (table (guest ∷ private ∷ ret ∷ public ∷ callProcedure 0 ∷ ret ∷ [])) (table (call 1 100 ∷ [])) (line "call 0 done")
+    ∷ printsUnder (table (forbid 0 15 0 15 ∷ [])) (table rowsS) (table (call 0 100 ∷ argument 7 ∷ [])) (line "call 0 done" ++ line "store 0 7 500")
+    ∷ prints (table rowsGuests) (table callsGuests) (line "call 0 done" ++ line "call 1 done 65" ++ line "store 0 7 500")
+    ∷ refusesUnder (table rulesGuests) (table rowsGuests) (take 15 (table callsGuests)) 0 22 24
+    ∷ refusesUnder (table (allow 0 15 0 15 ∷ [])) (table rowsGuests) (take 15 (table callsGuests)) 0 15 0
+    ∷ []
+
 -- all of them
 unfoldable pub examples : List Example
-examples = judgingRows ++ judgingValues ++ judgingWalks ++ judgingMarks ++ judgingOverwritten ++ judgingReadOnly ++ judgingHanded ++ judgingHelpers ++ judgingGiven ++ judgingRounds ++ runningCalls ++ runningKeys ++ runningLimits
+examples = judgingRows ++ judgingValues ++ judgingWalks ++ judgingMarks ++ judgingOverwritten ++ judgingReadOnly ++ judgingHanded ++ judgingHelpers ++ judgingGiven ++ judgingRounds ++ judgingFile ++ judgingPairs ++ runningRules ++ runningCalls ++ runningKeys ++ runningLimits
 
 -- what an example is answered with
 pub data Answer : Type 0 where
@@ -381,8 +465,8 @@ pub data Answer : Type 0 where
 
 -- the answers that the examples give
 abbrev pub given : Example → Answer
-given (judging bytes verdict) = judged verdict
-given (running t l room verdict text) = ran verdict text
+given (judging has r bytes verdict) = judged verdict
+given (running has r t l room verdict text) = ran verdict text
 
 unfoldable pub expected : List Answer
 expected = map given examples
@@ -395,9 +479,9 @@ shown r = ran (r .answer) (take (textLength (r .answer)) (r .buffer))
     textLength (Accepted size) = size
     textLength (Refused number row) = 0
 
-abbrev pub answered : (List ℕ → Verdict) → (List ℕ → List ℕ → List ℕ → Ran) → Example → Answer
-answered judge run (judging bytes verdict) = judged (judge bytes)
-answered judge run (running t l room verdict text) = shown (run t l (replicate room 0))
+abbrev pub answered : (ℕ → List ℕ → List ℕ → Verdict) → (ℕ → List ℕ → List ℕ → List ℕ → List ℕ → Ran) → Example → Answer
+answered judge run (judging has r bytes verdict) = judged (judge has r bytes)
+answered judge run (running has r t l room verdict text) = shown (run has r t l (replicate room 0))
 
-unfoldable pub answers : (List ℕ → Verdict) → (List ℕ → List ℕ → List ℕ → Ran) → List Answer
+unfoldable pub answers : (ℕ → List ℕ → List ℕ → Verdict) → (ℕ → List ℕ → List ℕ → List ℕ → List ℕ → Ran) → List Answer
 answers judge run = map (answered judge run) examples

@@ -135,6 +135,16 @@ call procedure budget = row callRow 0 procedure budget 0
 unfoldable pub argument : ℕ → List ℕ
 argument d = row argumentRow 0 0 0 d
 
+-- rows of a rule file: the first and the last calling module, the first and the last called module
+unfoldable pub rule : ℕ → ℕ → ℕ → ℕ → ℕ → List ℕ
+rule choice first last firstCalled lastCalled = 1 ∷ choice ∷ 0 ∷ 0 ∷ first ∷ last ∷ firstCalled ∷ lastCalled ∷ toLe 0 8
+
+unfoldable pub allow : ℕ → ℕ → ℕ → ℕ → List ℕ
+allow = rule 1
+
+unfoldable pub forbid : ℕ → ℕ → ℕ → ℕ → List ℕ
+forbid = rule 0
+
 -- S: a credit of 500 kilos is packed and moved to an address
 unfoldable pub rowsS : List (List ℕ)
 rowsS = trusted ∷ type ∷ guarded ∷ public ∷ parameter 0 0 ∷ loadConst 500 ∷ pack 0 ∷ mvLoc 0 ∷ moveTo 0 ∷ ret ∷ []
@@ -538,3 +548,18 @@ rowsHandedOut =
 -- the credit is published, and the guest is called
 unfoldable pub callsHandedOut : List (List ℕ)
 callsHandedOut = call 0 100 ∷ argument 7 ∷ call 2 100 ∷ argument 7 ∷ []
+
+-- Credits, a mill that tells a price, a guest that publishes a credit and a guest that asks the price; procedures 0 to 3, one in each module. The Calls are rows 19 and 24
+unfoldable pub rowsGuests : List (List ℕ)
+rowsGuests = rowsS ++ (trusted ∷ public ∷ result 0 0 ∷ loadConst 65 ∷ ret ∷ guest ∷ public ∷ parameter 0 0 ∷ mvLoc 0 ∷ callProcedure 0 ∷ ret ∷ guest ∷ public ∷ result 0 0 ∷ callProcedure 1 ∷ ret ∷ [])
+
+unfoldable pub callsGuests : List (List ℕ)
+callsGuests = call 2 100 ∷ argument 7 ∷ call 3 100 ∷ []
+
+-- rules for it: modules 0 and 1 may call all, the others all but module 1
+unfoldable pub rulesGuests : List (List ℕ)
+rulesGuests = allow 0 1 0 15 ∷ allow 2 15 0 0 ∷ forbid 2 15 1 1 ∷ allow 2 15 2 15 ∷ []
+
+-- a guest whose public procedure calls its private one, and a Call of it that no walk reaches
+unfoldable pub rowsWithin : List (List ℕ)
+rowsWithin = guest ∷ private ∷ ret ∷ public ∷ ret ∷ callProcedure 0 ∷ ret ∷ []

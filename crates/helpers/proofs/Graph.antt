@@ -10,7 +10,7 @@ use borrow.Author.Tests.{eqb-true, ltb-true, ltb-false, lt-ltb, le-ltb, eq-eqb}
 use lib.Dec.{eqb, ltb}
 use lib.ListN.{length, getD, replicate, length-replicate}
 use Rattle.laws.proofs.Lists.{length-tabulate, getD-tabulate}
-use Rattle.laws.proofs.Tests.{and-both, both-and}
+use Rattle.laws.proofs.Tests.{and-both, both-and, same-test}
 use Rattle.reach.specs.Reach.{Mem, here, there, At, Inside, Walk, start, step, mark, push, sweep, rounds}
 use Rattle.reach.proofs.Laws.{at-below, none-at, length-mark, mark-new, mark-inv, stays, length-iter, sound, complete}
 use Rattle.table.specs.Format.{opCall}
@@ -482,14 +482,9 @@ module _ (code : ℕ → Procedure) (count : ℕ) (fit : Fits code count) (at : 
   -- and within a procedure what the analysis under them finds
   found-under : (q i x : ℕ) → q < count → i < code q .size → x < perRow → getD (found code at) (perRow * (at .base q + i) + x) false ≡ getD (nodesUnder code marks q) (markPlaces * i + suc x) false
   found-under q i x h b l =
-      both _ _
+      same-test _ _
       (λ a. node-found code count fit marks q h (code-holds marks q i x h b l (found-holds marks marks-sent (perRow * (at .base q + i) + x) a) .1))
       (λ a. let p = node-shown code count fit marks q h i (suc x) (omega arith) a in found-path q h (p .1) x refl)
-    where
-      both : (a b : Bool) → (a ≡ true → b ≡ true) → (b ≡ true → a ≡ true) → a ≡ b
-      both true b f g = sym (f refl)
-      both false true f g = g refl
-      both false false f g = refl
 
   pub found-nodes : (q i x : ℕ) → q < count → i < code q .size → x < perRow
       → getD (found code at) (perRow * (at .base q + i) + x) false ≡ getD (nodesUnder code (givenOf code count) q) (markPlaces * i + suc x) false

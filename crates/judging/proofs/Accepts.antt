@@ -1,22 +1,20 @@
 -- A table is accepted exactly if every pass accepts it.
 use Prim.Native.Nat.{ℕ, _%_}
-use mathlib.Core.Path.{_≡_, refl, ap, _∙_}
+use mathlib.Core.Path.{_≡_, refl}
 use mathlib.Core.Bool.{Bool, true, false, not, _||_}
 use mathlib.Core.List.{List, [], _∷_}
-use native.Mathlib.Nat.{zero-add}
 use lib.Dec.{eqb, ltb}
 use lib.ListN.{length}
-use Rattle.laws.proofs.First.{all-fine, clean-if}
 use Rattle.table.specs.declared.Verdict.{Verdict}
-use Rattle.table.specs.declared.Verdict.the-variants.{Accepted, Refused}
+use Rattle.table.specs.declared.Verdict.the-variants.{Accepted}
 use Rattle.table.specs.declared.index.ProcedureEntry.{ProcedureEntry}
 use Rattle.table.specs.declared.index.Index.{Index}
 use Rattle.table.specs.Rows.{rowCount}
-use Rattle.table.specs.Verdicts.{valueOf, passOver}
+use Rattle.table.specs.Verdicts.{valueOf}
 use Rattle.table.specs.Index.{indexOf}
 use Rattle.rows.specs.Rows.{lengthOf, rowsOf}
 use Rattle.declarations.specs.Program.{codePass}
-use Rattle.declarations.proofs.Passes.{refused-accepted, both-accept, pass-fine, pass-clean}
+use Rattle.declarations.proofs.Passes.{refused-accepted, both-accept, pass-fine, pass-clean, over-rows}
 use Rattle.names.specs.Names.{namesOf, namesWith}
 use Rattle.operands.specs.Operands.{operandsOf, operandsWith}
 use Rattle.locals.specs.Locals.{localsOf}
@@ -31,9 +29,6 @@ length-rows t n e = go (eqb (length t) 0 || not (eqb (length t % 16) 0) || ltb 3
     go : (b : Bool) → (eqb (length t) 0 || not (eqb (length t % 16) 0) || ltb 32768 (length t)) ≡ b → lengthOf t ≡ Accepted (rowCount t)
     go true q = absurd (refused-accepted (rw q at e))
     go false q = rw q
-
-pub over-rows : (f : ℕ → ℕ) (k n : ℕ) → passOver f k ≡ Accepted n → passOver f k ≡ Accepted k
-over-rows f k n e = clean-if Accepted Refused f 0 k (λ j lo hi. all-fine Accepted Refused f (λ n k i q. refused-accepted q) n 0 k e j lo hi) ∙ ap Accepted (zero-add k)
 
 pub code-rows : (fault : ℕ → ProcedureEntry → ℕ → ℕ) (ix : Index) (t : List ℕ) (n : ℕ) → codePass fault ix t ≡ Accepted n → codePass fault ix t ≡ Accepted (rowCount t)
 code-rows fault ix t n e = pass-clean fault ix t (λ q i a b c. pass-fine fault ix t n e q a b i c)

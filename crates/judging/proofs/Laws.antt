@@ -9,7 +9,7 @@ use Rattle.table.specs.Rows.{rowCount}
 use Rattle.table.specs.Verdicts.{andThen}
 use Rattle.table.specs.Index.{indexOf}
 use Rattle.rows.specs.Rows.{lengthOf, rowsOf, formOf}
-use Rattle.declarations.proofs.Passes.{refused-accepted, both-accept}
+use Rattle.declarations.proofs.Passes.{refused-accepted, both-accept, over-rows}
 use Rattle.names.specs.Names.{namesOf, namesWith}
 use Rattle.operands.specs.Operands.{operandsOf}
 use Rattle.locals.specs.Locals.{localsOf}
@@ -18,7 +18,7 @@ use Rattle.sizes.specs.Formed.{Formed}
 use Rattle.leaks.specs.Leaks.{leaksOf}
 use Rattle.judging.specs.Judging.{inOrder, judgeOf, passes}
 use Rattle.judging.proofs.Sizes.{locals-within}
-use Rattle.judging.proofs.Accepts.{length-rows, over-rows}
+use Rattle.judging.proofs.Accepts.{length-rows}
 
 -- a pass that refuses decides; one that accepts leaves it to the later ones
 pub refused-here : (pass : List ℕ → Verdict) (later : List (List ℕ → Verdict)) (t : List ℕ) {number row : ℕ} → pass t ≡ Refused number row → inOrder (pass ∷ later) t ≡ Refused number row

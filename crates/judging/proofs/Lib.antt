@@ -4,3 +4,4 @@ pub mod Values
 pub mod Accepts
 pub mod Numbers
 pub mod Before
+pub mod Under

@@ -1,6 +1,6 @@
 -- Each pass refuses with its own numbers: 1 length; 2, 3, 4, 18, 19 rows; 5, 6 names; 7 to 10 operands; 11, 12 locals; 13, 14 leaks. So the number of a
 -- refusal tells which passes accept.
-use Prim.Native.Nat.{ℕ, zero, suc, _+_, _%_}
+use Prim.Native.Nat.{ℕ, zero, suc, _%_}
 use mathlib.Core.Path.{_≡_, refl, sym, _∙_}
 use mathlib.Core.Bool.{Bool, true, false, cond, not, _&&_, _||_, false≢true}
 use mathlib.Core.List.{List, [], _∷_, _++_}
@@ -9,7 +9,6 @@ use lib.Dec.{eqb, ltb}
 use lib.ListN.{length}
 use Rattle.laws.specs.Lists.{member, none}
 use Rattle.laws.proofs.Lists.{disjoint, not-in, in-first, in-second}
-use Rattle.laws.proofs.First.{Stops, clean-or-stops}
 use Rattle.table.specs.declared.Row.{Row}
 use Rattle.table.specs.declared.Verdict.{Verdict}
 use Rattle.table.specs.declared.Verdict.the-variants.{Accepted, Refused}
@@ -24,7 +23,7 @@ use Rattle.table.specs.Index.{indexOf}
 use Rattle.rows.specs.declared.Above.{Above}
 use Rattle.rows.specs.Rows as rows
 use Rattle.declarations.specs.Program.{number, procedureIn, codePass, codeOf, localCount}
-use Rattle.declarations.proofs.Passes.{refused-accepted, refused-number, pass-first}
+use Rattle.declarations.proofs.Passes.{refused-accepted, refused-number, pass-first, over-rows, over-first}
 use Rattle.names.specs.Names as names
 use Rattle.effects.specs.Kinds.{Kinds, good, bad, failed, taken, pushed, takenAll, pushedAll, faultAfter}
 use Rattle.effects.specs.Effects.{Effect, applied, kindsAfter}
@@ -37,7 +36,7 @@ use Rattle.helpers.specs.Tables.{isPrivate, isHelper, marksUnder, marksIn}
 use Rattle.leaks.specs.Leaks.{inTrusted, someMarked, leakIn, leakFrom, leakFault, leaksOf}
 use Rattle.judging.specs.Judging.{judgeOf, inOrder, passes, UpToOperands}
 use Rattle.judging.proofs.Laws.{accepted-here}
-use Rattle.judging.proofs.Accepts.{length-rows, over-rows, code-rows}
+use Rattle.judging.proofs.Accepts.{length-rows, code-rows}
 
 -- no fault, or one of these numbers
 abbrev Among : List ℕ → ℕ → Type 0
@@ -55,11 +54,9 @@ is-one numbers f (inr h) n = h
 
 -- a pass over rows, and one over instructions, refuse with one of these numbers
 over-number : (numbers : List ℕ) (f : ℕ → ℕ) → ((i : ℕ) → Among numbers (f i)) → (n : ℕ) {number row : ℕ} → passOver f n ≡ Refused number row → member number numbers ≡ true
-over-number numbers f w n {number} {row} e = go (clean-or-stops Accepted Refused f 0 n)
-  where
-    go : (passOver f n ≡ Accepted (0 + n)) ⊎ Stops Accepted Refused f 0 n → member number numbers ≡ true
-    go (inl c) = absurd (refused-accepted (sym e ∙ c))
-    go (inr s) = rw (refused-number (sym (s .told) ∙ e)) at (is-one numbers (f (s .at)) (w (s .at)) (s .faulty))
+over-number numbers f w n e =
+    let s = over-first f n e in
+    rw (s .number-is) at (is-one numbers _ (w _) (s .faulty))
 
 code-number : (numbers : List ℕ) (fault : ℕ → ProcedureEntry → ℕ → ℕ) → ((q : ℕ) (p : ProcedureEntry) (i : ℕ) → Among numbers (fault q p i)) → (ix : Index) (t : List ℕ) {number row : ℕ} → codePass fault ix t ≡ Refused number row
     → member number numbers ≡ true

@@ -57,7 +57,7 @@ code-value f t p h = go (rowCount (codeOf t p)) refl
     go zero e = rw e (omega arith)
     go (suc n) e = omega (arith, first-value (λ (k j : ℕ). Refused k (p .code + j)) (p .code) (λ k j. omega arith) f 0 (rowCount (codeOf t p)), part-between t (p .code) (p .end))
 
-then-value : (v w : Verdict) → valueOf v ≤ 2048 → valueOf w ≤ 2048 → valueOf (andThen v w) ≤ 2048
+pub then-value : (v w : Verdict) → valueOf v ≤ 2048 → valueOf w ≤ 2048 → valueOf (andThen v w) ≤ 2048
 then-value (Accepted n) w h k = k
 then-value (Refused a b) w h k = h
 
@@ -67,7 +67,7 @@ over-value fault t r s [] h = r
 over-value fault t r s (p ∷ ps) h =
     then-value (codeVerdict (fault s p) (p .code) (rowCount (codeOf t p))) (overProcedures fault t (s + 1) ps) (code-value (fault s p) t p (h 0 (omega arith))) (over-value fault t r (s + 1) ps (λ q l. h (suc q) (omega arith)))
 
-pass-value : (fault : ℕ → ProcedureEntry → ℕ → ℕ) (t : List ℕ) → rowCount t ≤ 2048 → valueOf (codePass fault (indexOf t) t) ≤ 2048
+pub pass-value : (fault : ℕ → ProcedureEntry → ℕ → ℕ) (t : List ℕ) → rowCount t ≤ 2048 → valueOf (codePass fault (indexOf t) t) ≤ 2048
 unfolding codePass indexOf procedureIn
 pass-value fault t r = over-value fault t r 0 (take (indexOf t .procedures) (indexOf t .«procedure_entries»)) ends
   where
@@ -79,7 +79,7 @@ pass-value fault t r = over-value fault t r 0 (take (indexOf t .procedures) (ind
         let hi : q < 128 = omega (arith, few, size) in
         rw (getD-take (indexOf t .procedures) (indexOf t .«procedure_entries») q noProcedure lo) (procedure-ends t q lo hi)
 
-rows-value : (f : ℕ → ℕ) (n : ℕ) → n ≤ 2048 → valueOf (firstFault Accepted Refused f 0 n) ≤ 2048
+pub rows-value : (f : ℕ → ℕ) (n : ℕ) → n ≤ 2048 → valueOf (firstFault Accepted Refused f 0 n) ≤ 2048
 rows-value f n h = omega (arith, first-value Refused 0 (λ k j. omega arith) f 0 n)
 
 -- the value of the verdict on any bytes

@@ -11,6 +11,7 @@ use Rattle.names.specs.Names.{namesOf}
 use Rattle.operands.specs.Operands.{operandsOf}
 use Rattle.locals.specs.Locals.{localsOf}
 use Rattle.leaks.specs.Leaks.{leaksOf}
+use Rattle.policy.specs.Policy.{rulesOf}
 
 -- each pass over the whole table, each only if the earlier ones accept
 unfoldable pub passes : List (List ℕ → Verdict)
@@ -20,9 +21,13 @@ unfoldable pub inOrder : List (List ℕ → Verdict) → List ℕ → Verdict
 inOrder [] t = Accepted (rowCount t)
 inOrder (pass ∷ later) t = let rest = inOrder later t in andThen (pass t) rest
 
--- the verdict on a table: the first refusal, or the number of rows
+-- the verdict on a table, without a rule file: the first refusal, or the number of rows
 unfoldable pub judgeOf : List ℕ → Verdict
 judgeOf t = inOrder passes t
+
+-- under the rule file r, where there is one, which `has` tells: it is asked of a table that is accepted without it
+unfoldable pub judgeUnder : ℕ → List ℕ → List ℕ → Verdict
+judgeUnder has r t = andThen (judgeOf t) (rulesOf has r t)
 
 -- the answer in one number: 2^32 times the refusal's number, or 0, plus its row, or the number of rows
 unfoldable pub answerOf : Verdict → ℕ

@@ -1,9 +1,9 @@
 -- Laws of a pass that stops at its first faulty row, for any answer type and any fault function.
 use Prim.Native.Nat.{ℕ, suc, zero, _+_, _-_, _<_, _≤_}
-use mathlib.Core.Path.{_≡_, refl}
+use mathlib.Core.Path.{_≡_, refl, sym, ap, _∙_}
 use mathlib.Core.Bool.{Bool, true, false, cond}
 use mathlib.Core.Logic.{_⊎_, inl, inr}
-use native.Mathlib.Nat.{sub-self, sub-zero, add-zero}
+use native.Mathlib.Nat.{sub-self, sub-zero, add-zero, zero-add}
 use native.Mathlib.Decide.{decLt}
 use native.Mathlib.Omega.{arith}
 use Rattle.laws.specs.First.{firstFault, unless}
@@ -15,6 +15,11 @@ less n i h = omega arith
 pub unfaulted : (b : Bool) (f rest : ℕ) → cond b (suc f) rest ≡ 0 → (b ≡ false) × (rest ≡ 0)
 unfaulted true f rest e = absurd (omega arith)
 unfaulted false f rest e = (refl, e)
+
+-- another one, where there is one test: it holds
+pub faulted : (b : Bool) (f : ℕ) → (cond b f 0 ≡ 0 → ⊥) → (b ≡ true) × (cond b f 0 ≡ f)
+faulted true f e = (refl, refl)
+faulted false f e = absurd (e refl)
 
 unless-bad : {A : Type 0} (f : ℕ) (bad rest : A) → (f ≡ 0 → ⊥) → unless f bad rest ≡ bad
 unless-bad zero bad rest ne = absurd (ne refl)
@@ -32,6 +37,10 @@ module _ {A : Type 0} (clean : ℕ → A) (bad : ℕ → ℕ → A) (f : ℕ →
   pub faulty : (n i : ℕ) → i < n → (f i ≡ 0 → ⊥) → from n i ≡ bad (f i) i
   unfolding firstFault
   faulty n i h ne = rw (less n i h) (unless-bad (f i) _ _ ne)
+
+  -- where the number of the fault is known
+  pub faulty-with : (n i k : ℕ) → i < n → f i ≡ k → (k ≡ 0 → ⊥) → from n i ≡ bad k i
+  faulty-with n i k h e ne = faulty n i h (λ z. ne (sym e ∙ z)) ∙ ap (λ (number : ℕ). bad number i) e
 
   pub done : (n : ℕ) → from n n ≡ clean n
   unfolding firstFault
@@ -60,6 +69,20 @@ clean-if clean bad f i (suc left) h =
     let e : f i ≡ 0 = h i (omega arith) (omega arith) in
     let s : i + suc left ≡ i + 1 + left = omega arith in
     rw (e, s) (clean-if clean bad f (i + 1) left (λ j lo hi. h j (omega arith) (omega arith)))
+
+-- the same of all n rows, and of those that are left from row i on
+module _ {A : Type 0} (clean : ℕ → A) (bad : ℕ → ℕ → A) (f : ℕ → ℕ) (n : ℕ) where
+  pub clean-all : ((j : ℕ) → j < n → f j ≡ 0) → firstFault clean bad f 0 n ≡ clean n
+  clean-all h = clean-if clean bad f 0 n (λ j lo hi. h j (omega arith)) ∙ ap clean (zero-add n)
+
+  pub clean-from : (i : ℕ) → i ≤ n → ((j : ℕ) → i ≤ j → f j ≡ 0) → from clean bad f n i ≡ clean n
+  clean-from i h z = let e : i + (n - i) ≡ n = omega arith in clean-if clean bad f i (n - i) (λ j lo hi. z j lo) ∙ ap clean e
+
+-- passes that find the same faults are the same
+pub first-same : {A : Type 0} (clean : ℕ → A) (bad : ℕ → ℕ → A) (f g : ℕ → ℕ) (i left : ℕ) → ((j : ℕ) → i ≤ j → j < i + left → f j ≡ g j) → firstFault clean bad f i left ≡ firstFault clean bad g i left
+unfolding firstFault
+first-same clean bad f g i zero h = refl
+first-same clean bad f g i (suc left) h = rw (h i (omega arith) (omega arith), first-same clean bad f g (i + 1) left (λ j lo hi. h j (omega arith) (omega arith)))
 
 -- a pass is clean, or it stops at its first faulty row
 module _ {A : Type 0} (clean : ℕ → A) (bad : ℕ → ℕ → A) (f : ℕ → ℕ) where

@@ -1,10 +1,10 @@
 -- Laws of tabulated lists, of the numbers at which a test holds, and of tests over the numbers below n.
 use Prim.Native.Nat.{ℕ, suc, zero, _+_, _-_, _<_, _≤_}
 use mathlib.Core.Path.{_≡_, refl, sym, ap, subst⁻¹, _∙_}
-use mathlib.Core.Bool.{Bool, true, false, cond, not, _&&_, _||_, false≢true}
+use mathlib.Core.Bool.{Bool, true, false, cond, not, _&&_, _||_, true≢false, false≢true}
 use mathlib.Core.List.{List, [], _∷_, _++_}
 use mathlib.Core.Logic.{_⊎_, inl, inr}
-use native.Mathlib.Nat.{add-zero}
+use native.Mathlib.Nat.{add-zero, zero-add}
 use native.Mathlib.Numerals.{add-one}
 use native.Mathlib.Decide.{decLt, ℕ-discrete}
 use native.Mathlib.Omega.{arith}
@@ -13,6 +13,7 @@ use lib.Dec.{eqb}
 use lib.ListN.{length, getD, set, replicate, length-append, List·getD-append, List·getD-eq-default, length-set, length-replicate, getD-replicate}
 use lib.Seq.{getD-at, getD-set-same, getD-set-other, ext-getD}
 use Rattle.laws.specs.Lists.{member, tabulate, hits, find, every, nth, count, entryOf, entries, Listed}
+use Rattle.laws.proofs.Tests.{test-fails}
 
 less : (n i : ℕ) → i < n → n - i ≡ suc (n - (i + 1))
 less n i h = omega arith
@@ -137,11 +138,7 @@ unfolding every
 every-next test n e h = rw (add-one, e, h)
 
 pub every-fails : (test : ℕ → Bool) (n i : ℕ) → i < n → test i ≡ false → every test n ≡ false
-every-fails test n i h e = go (every test n) refl
-  where
-    go : (b : Bool) → every test n ≡ b → b ≡ false
-    go true q = sym (every-at test n i q h) ∙ e
-    go false q = refl
+every-fails test n i h e = test-fails (every test n) (λ q. true≢false (sym (every-at test n i q h) ∙ e))
 
 module _ (hit : ℕ → Bool) where
   pub count-zero : count hit 0 ≡ 0
@@ -193,6 +190,42 @@ module _ (hit : ℕ → Bool) where
   pub nth-none : (n p : ℕ) → count hit n ≤ p → nth hit n p ≡ n
   unfolding count nth
   nth-none n p h = List·getD-eq-default (hits hit n) n h
+
+-- i, and no other number below n, is hit
+abbrev pub Only : (ℕ → Bool) → ℕ → ℕ → Type 0
+Only hit n i = (i < n) × (hit i ≡ true) × ((j : ℕ) → j < n → hit j ≡ true → j ≡ i)
+
+module _ (hit : ℕ → Bool) where
+  pub first-hit : (n i : ℕ) (is : List ℕ) → hits hit n ≡ i ∷ is → (i < n) × (hit i ≡ true)
+  unfolding hits
+  first-hit zero i is e = let z : _≡_ {A = ℕ} 0 1 = cc in absurd (omega arith)
+  first-hit (suc n) i is e = go (hit n) refl (hits hit n) e (first-hit n i)
+    where
+      go : (b : Bool) → hit n ≡ b → (l : List ℕ) → cond b (l ++ (n ∷ [])) l ≡ i ∷ is → ((js : List ℕ) → l ≡ i ∷ js → (i < n) × (hit i ≡ true)) → (i < suc n) × (hit i ≡ true)
+      go true q [] e ih = let s : n ≡ i = cc in (omega arith, rw (← s) q)
+      go true q (j ∷ l) e ih = let s : j ∷ l ≡ i ∷ l = cc in let w = ih l s in (omega arith, w .1)
+      go false q l e ih = let w = ih is e in (omega arith, w .1)
+
+  pub hits-only : (n i : ℕ) → hits hit n ≡ i ∷ [] → Only hit n i
+  unfolding count nth
+  hits-only n i e = let f = first-hit n i [] e in (f .0, f .1, only)
+    where
+      only : (j : ℕ) → j < n → hit j ≡ true → j ≡ i
+      only j h q =
+          let s = nth-count hit n j h q in
+          let z : length (hits hit j) ≡ 0 = omega (arith, s .0, ap length e) in
+          sym (s .1) ∙ rw (z, e)
+
+  pub only-hits : (n i : ℕ) → Only hit n i → hits hit n ≡ i ∷ []
+  unfolding hits
+  only-hits n i (h, q, f) =
+      let z : i + 1 + (n - (i + 1)) ≡ n = omega arith in
+      let above = rw z at (hits-skip hit (i + 1) (n - (i + 1)) (λ j lo hi. missed j (omega arith) (λ s. omega arith))) in
+      let below = rw zero-add at (hits-skip hit 0 i (λ j lo hi. missed j (omega arith) (λ s. omega arith))) in
+      above ∙ hits-yes hit i q ∙ rw below
+    where
+      missed : (j : ℕ) → j < n → (j ≡ i → ⊥) → hit j ≡ false
+      missed j l other = test-fails (hit j) (λ e. other (f j l e))
 
 module _ {A : Type 0} (hit : ℕ → Bool) (entry : ℕ → A) (absent : A) where
   pub entryOf-none : (n p : ℕ) → count hit n ≤ p → entryOf hit entry absent n p ≡ absent

@@ -4,11 +4,11 @@ use mathlib.Core.Path.{_≡_, refl, sym, ap, _∙_}
 use mathlib.Core.Bool.{Bool, true, false, cond, _&&_, or-true, false≢true}
 use mathlib.Core.List.{List, [], _∷_, _++_}
 use native.Mathlib.Decide.{decLt}
-use native.Mathlib.Nat.{zero-add, add-zero}
+use native.Mathlib.Nat.{add-zero}
 use native.Mathlib.Omega.{arith}
 use lib.Dec.{eqb}
 use lib.ListN.{length, take, replicate, length-replicate, length-append}
-use Rattle.laws.proofs.First.{clean-if}
+use Rattle.laws.proofs.First.{clean-all}
 use Rattle.table.specs.declared.Row.{Row}
 use Rattle.table.specs.declared.Verdict.{Verdict}
 use Rattle.table.specs.declared.Verdict.the-variants.{Accepted}
@@ -93,4 +93,4 @@ module _ (t : List ℕ) (ix : Index) (seen : List Bool) (q : ℕ) (p : Procedure
 
   pub guest-verdict : inTrusted t ix p ≡ false → verdictOf (readFault t ix seen) ix t q p ≡ Accepted (rowCount (codeOf t p))
   unfolding verdictOf readFault codeVerdict
-  guest-verdict guest = clean-if Accepted _ _ 0 (rowCount (codeOf t p)) (λ j lo hi. rw guest) ∙ ap Accepted (zero-add (rowCount (codeOf t p)))
+  guest-verdict guest = clean-all Accepted _ _ (rowCount (codeOf t p)) (λ j h. rw guest)

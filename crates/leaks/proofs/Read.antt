@@ -9,7 +9,7 @@ use borrow.Author.Tests.{eqb-true}
 use lib.Dec.{eqb}
 use lib.ListN.{length, getD, replicate, length-take}
 use lib.Seq.{getD-take}
-use Rattle.laws.specs.First.{firstFault, unless}
+use Rattle.laws.proofs.First.{first-same}
 use Rattle.table.specs.declared.Verdict.the-variants.{Accepted, Refused}
 use Rattle.table.specs.declared.index.Index.{Index}
 use Rattle.table.specs.declared.index.ProcedureEntry.{ProcedureEntry}
@@ -34,13 +34,6 @@ use Rattle.leaks.specs.Leaks.{inTrusted, someMarked, leakIn, leakFrom, l
 use Rattle.leaks.specs.Read.{markedAt, markedIn, readFault, readPass}
 
 -- Passes that find the same faults at every instruction are the same.
-first-same : {A : Type 0} (clean : ℕ → A) (bad : ℕ → ℕ → A) (f g : ℕ → ℕ) (i left : ℕ) → ((j : ℕ) → i ≤ j → j < i + left → f j ≡ g j) → firstFault clean bad f i left ≡ firstFault clean bad g i left
-unfolding firstFault
-first-same clean bad f g i zero h = refl
-first-same {A} clean bad f g i (suc left) h =
-    ap₂ (λ (k : ℕ) (rest : A). unless k (bad k i) rest) (h i (omega arith) (omega arith))
-    (first-same clean bad f g (i + 1) left (λ j lo hi. h j (omega arith) (omega arith)))
-
 module _ (f g : ℕ → ProcedureEntry → ℕ → ℕ) (t : List ℕ) where
   list-same : (s : ℕ) (ps : List ProcedureEntry)
       → ((q : ℕ) → q < length ps → (i : ℕ) → i < rowCount (codeOf t (getD ps q noProcedure)) → f (s + q) (getD ps q noProcedure) i ≡ g (s + q) (getD ps q noProcedure) i)

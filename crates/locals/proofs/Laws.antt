@@ -10,7 +10,7 @@ use native.Mathlib.Omega.{arith}
 use borrow.Author.Tests.{ltb-true, eqb-true}
 use lib.Dec.{eqb, ltb}
 use lib.ListN.{length, getD, take, drop, replicate, length-replicate}
-use Rattle.laws.specs.First.{firstFault}
+use Rattle.laws.proofs.First.{first-same}
 use Rattle.reach.specs.Reach.{Mem, Inside, mark}
 use Rattle.reach.specs.Search.{Searched, entering}
 use Rattle.reach.proofs.Laws.{length-mark}
@@ -213,15 +213,10 @@ module _ (nodes : List Bool) (n count : ℕ) (records : LocalSet) (i : ℕ) wher
       go (yes q) ih = rw (← q, e, or-true)
       go (no q) ih = rw (ih (omega arith))
 
--- passes with the same faults
-pass-same : {A : Type 0} (clean : ℕ → A) (bad : ℕ → ℕ → A) (f g : ℕ → ℕ) (i left : ℕ) → ((j : ℕ) → i ≤ j → j < i + left → f j ≡ g j) → firstFault clean bad f i left ≡ firstFault clean bad g i left
-unfolding firstFault
-pass-same clean bad f g i zero h = refl
-pass-same clean bad f g i (suc left) h = rw (h i (omega arith) (omega arith), pass-same clean bad f g (i + 1) left (λ j lo hi. h j (omega arith) (omega arith)))
-
+-- verdicts with the same faults
 pub verdict-same : (f g : ℕ → ℕ) (start n : ℕ) → ((i : ℕ) → i < n → f i ≡ g i) → codeVerdict f start n ≡ codeVerdict g start n
 unfolding codeVerdict
-verdict-same f g start n h = pass-same Accepted (λ (number i : ℕ). Refused number (start + i)) f g 0 n (λ j lo hi. h j (omega arith))
+verdict-same f g start n h = first-same Accepted (λ (number i : ℕ). Refused number (start + i)) f g 0 n (λ j lo hi. h j (omega arith))
 
 -- the verdict on the code of procedure p
 pub procedure-verdict :

@@ -1,11 +1,14 @@
-// Runs the made lists of cases.bin, one after the other, and prints for each a line `case K` and the text, or the refusal line. A case is a table, a
-// list and the length of the text buffer; table and list are their length and their bytes; a number is four bytes, lowest first.
+// Runs the made lists of cases.bin, one after the other, each under its rule file, and prints for each a line `case K` and the text, or the refusal line. A case
+// is a table, a list, whether there is a rule file, 0 or 1, its bytes, and the length of the text buffer; table, list and file are their length and their bytes;
+// a number is four bytes, lowest first.
 use libc::STDOUT_FILENO;
 
-// The longest table, list and buffer that a file may hold, and the most cases.
+// The longest table, list, rule file and buffer that a file may hold, and the most cases.
 const TABLE: usize = 65536;
 
 const LIST: usize = 8192;
+
+const RULES: usize = 8192;
 
 const TEXT: usize = 131072;
 
@@ -19,15 +22,16 @@ fn main() {
     }
     let mut table = [0u8; TABLE];
     let mut list = [0u8; LIST];
+    let mut rules = [0u8; RULES];
     let mut text = [0u8; TEXT];
-    run_all(file, &mut table, &mut list, &mut text);
+    run_all(file, &mut table, &mut list, &mut rules, &mut text);
 }
 
 // Runs the cases of the file, each read into the buffers.
-fn run_all(file: i32, table: &mut [u8], list: &mut [u8], text: &mut [u8]) {
+fn run_all(file: i32, table: &mut [u8], list: &mut [u8], rules: &mut [u8], text: &mut [u8]) {
     let mut k = 0;
     while k < MOST {
-        if !run_next(file, k, table, list, text) {
+        if !run_next(file, k, table, list, rules, text) {
             return;
         }
         k += 1;
@@ -35,7 +39,14 @@ fn run_all(file: i32, table: &mut [u8], list: &mut [u8], text: &mut [u8]) {
 }
 
 // Runs the next case; false where there is none, or where a part of it is too long or cut off.
-fn run_next(file: i32, k: usize, table: &mut [u8], list: &mut [u8], text: &mut [u8]) -> bool {
+fn run_next(
+    file: i32,
+    k: usize,
+    table: &mut [u8],
+    list: &mut [u8],
+    rules: &mut [u8],
+    text: &mut [u8],
+) -> bool {
     let n = printing::next_number(file, TABLE + 1);
     if table.len() < n {
         return false;
@@ -50,19 +61,33 @@ fn run_next(file: i32, k: usize, table: &mut [u8], list: &mut [u8], text: &mut [
     if !printing::read_whole(file, &mut list[..m]) {
         return false;
     }
+    let has = printing::next_number(file, 0);
+    let r = printing::next_number(file, RULES + 1);
+    if rules.len() < r {
+        return false;
+    }
+    if !printing::read_whole(file, &mut rules[..r]) {
+        return false;
+    }
     let size = printing::next_number(file, TEXT + 1);
     if text.len() < size {
         return false;
     }
-    run_case(k, &table[..n], &list[..m], &mut text[..size]);
+    print_case(k);
+    let answer = running::run_list(
+        &table[..n],
+        &list[..m],
+        &rules[..r],
+        has as u64,
+        &mut text[..size],
+    );
+    printing::print_run(answer, &text[..size]);
     true
 }
 
-// Runs case k and prints it.
-fn run_case(k: usize, table: &[u8], list: &[u8], text: &mut [u8]) {
+// The line of case k.
+fn print_case(k: usize) {
     io::write_all(STDOUT_FILENO, b"case ");
     io::print_decimal(STDOUT_FILENO, k as u64);
     io::write_all(STDOUT_FILENO, b"\n");
-    let answer = running::run_list(table, list, text);
-    printing::print_run(answer, text);
 }

@@ -5,18 +5,17 @@ use mathlib.Core.Bool.{Bool, true, false, _&&_, _||_, or-true}
 use mathlib.Core.List.{List}
 use mathlib.Core.Logic.{_⊎_, inl, inr}
 use mathlib.Mathlib.Data.Bool.Basic.{or-eq-false-eq-eq-false-and-eq-false as neither}
-use native.Mathlib.Omega.{arith}
 use borrow.Author.Tests.{leb-false, eqb-true, eq-eqb, not-false}
 use lib.Dec.{eqb, leb}
 use Rattle.laws.specs.Lists.{count}
-use Rattle.laws.proofs.First.{all-fine, unfaulted}
-use Rattle.table.specs.declared.Verdict.the-variants.{Accepted, Refused}
+use Rattle.laws.proofs.First.{unfaulted}
+use Rattle.table.specs.declared.Verdict.the-variants.{Accepted}
 use Rattle.table.specs.declared.index.Index.{Index}
 use Rattle.table.specs.declared.index.ProcedureEntry.{ProcedureEntry}
 use Rattle.table.specs.Format.{typeKind, fieldKind, procedureKind, localKind, resultKind, instructionKind, recordSort}
 use Rattle.table.specs.Rows.{rowCount, rowAt, kindAt, isKind}
 use Rattle.declarations.specs.Program.{typeIn, procedureIn}
-use Rattle.declarations.proofs.Passes.{refused-accepted}
+use Rattle.declarations.proofs.Passes.{over-fine}
 use Rattle.names.specs.Names.{Named, nothing, localNumber, fieldNumber, typeNumber, procedureNumber, target, missing, badEnd, notLower, noSuchType, noSuchName, nameFault, faultAt, namesWith}
 use Rattle.names.specs.Exist.{Exists, Good}
 
@@ -65,4 +64,4 @@ row-good t ix i e =
 -- every row of an accepted table is good
 pub names-good : (t : List ℕ) (ix : Index) (n : ℕ) → namesWith ix t ≡ Accepted n → (i : ℕ) → i < rowCount t → Good t ix i
 unfolding namesWith
-names-good t ix n e i h = row-good t ix i (all-fine Accepted Refused (faultAt t ix) (λ n k i. refused-accepted) n 0 (rowCount t) e i (omega arith) (omega arith))
+names-good t ix n e i h = row-good t ix i (over-fine (faultAt t ix) (rowCount t) e i h)

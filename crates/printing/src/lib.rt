@@ -44,9 +44,10 @@ pub fn print_run(answer: Verdict, text: &[u8]) {
     }
 }
 
-// What reading gave: so many bytes, at the buffer's start, or a read that failed.
+// What reading gave: so many bytes, at the buffer's start; no file of the name; or a read that failed.
 pub enum Reading {
     Bytes(usize),
+    Missing,
     Failed,
 }
 
@@ -57,10 +58,22 @@ const TRIES: usize = 1000;
 pub fn read_file(name: &[u8], room: &mut [u8]) -> Reading
     ensures { λ r. ⌜ Fits r (length (now (room .entry))) ⌝ }
 {
+    let got = read_if_there(name, room);
+    match got {
+        Reading::Bytes(n) => Reading::Bytes(n),
+        Reading::Missing => Reading::Bytes(0),
+        Reading::Failed => Reading::Failed,
+    }
+}
+
+// The same, and a missing file is told.
+pub fn read_if_there(name: &[u8], room: &mut [u8]) -> Reading
+    ensures { λ r. ⌜ Fits r (length (now (room .entry))) ⌝ }
+{
     let file = os::open_read(name);
     if file < 0 {
         if os::errno() == libc::ENOENT {
-            return Reading::Bytes(0);
+            return Reading::Missing;
         }
         os::fail(name);
         return Reading::Failed;
@@ -74,6 +87,7 @@ pub fn read_file(name: &[u8], room: &mut [u8]) -> Reading
 fn tell_failed(got: Reading, name: &[u8]) {
     match got {
         Reading::Bytes(n) => {}
+        Reading::Missing => {}
         Reading::Failed => os::fail(name),
     }
 }
@@ -120,6 +134,7 @@ pub fn read_whole(file: i32, room: &mut [u8]) -> bool {
     tell_failed(got, b"input");
     match got {
         Reading::Bytes(n) => n == room.len(),
+        Reading::Missing => false,
         Reading::Failed => false,
     }
 }

@@ -1,4 +1,5 @@
-// Running a list of calls over a table: the table, the list and the buffer are judged first, and only then is anything run.
+// Running a list of calls over a table: the table, under a rule file where there is one, the list and the buffer are judged first, and only then is
+// anything run.
 ghost use mathlib.Core.Path.{_≡_};
 ghost use Rattle.semantics.specs.Run.{runOf};
 ghost use Rattle.text.specs.Placing.{placed};
@@ -99,11 +100,12 @@ fn run_calls(table: &[u8], list: &[u8], index: Index, text: &mut [u8]) -> usize
     store_text::put_entries(text, end, &cells, last.state.entries)
 }
 
-// Judges the table, then the list, then the buffer, and runs the calls: a refusal, or the length of the text, which stands at the buffer's start.
-pub fn run_list(table: &[u8], list: &[u8], text: &mut [u8]) -> Verdict
-    ensures { λ r. ⌜ (r ≡ (runOf (now (table .entry)) (now (list .entry)) (now (text .entry))) .answer) × (now (text .exit) ≡ (runOf (now (table .entry)) (now (list .entry)) (now (text .entry))) .buffer) ⌝ }
+// Judges the table, under the rule file unless `has` is 0, then the list, then the buffer, and runs the calls: a refusal, or the length of the text, which
+// stands at the buffer's start.
+pub fn run_list(table: &[u8], list: &[u8], rules: &[u8], has: u64, text: &mut [u8]) -> Verdict
+    ensures { λ r. ⌜ (r ≡ (runOf has (now (rules .entry)) (now (table .entry)) (now (list .entry)) (now (text .entry))) .answer) × (now (text .exit) ≡ (runOf has (now (rules .entry)) (now (table .entry)) (now (list .entry)) (now (text .entry))) .buffer) ⌝ }
 {
-    let judged = judging::judge_table(table);
+    let judged = judging::judge_under(table, rules, has);
     if let Verdict::Refused(number, row) = judged {
         return Verdict::Refused(number, row);
     }

@@ -8,18 +8,17 @@ use native.Mathlib.Omega.{arith}
 use borrow.Author.Tests.{ltb-false, leb-false, eqb-true, eqb-false, not-false}
 use lib.Dec.{eqb, ltb}
 use lib.ListN.{length}
-use Rattle.laws.proofs.First.{all-fine, unfaulted}
+use Rattle.laws.proofs.First.{unfaulted}
 use Rattle.laws.proofs.Tests.{and-both, neither}
 use Rattle.table.specs.declared.Row.{Row}
-use Rattle.table.specs.declared.Verdict.{Verdict}
-use Rattle.table.specs.declared.Verdict.the-variants.{Accepted, Refused}
+use Rattle.table.specs.declared.Verdict.the-variants.{Accepted}
 use Rattle.table.specs.declared.index.Index.{Index}
 use Rattle.table.specs.Format.{rowBytes}
 use Rattle.table.specs.Rows.{rowCount, rowAt, kindAt, isKind}
 use Rattle.table.specs.Verdicts.{passOver}
 use Rattle.table.proofs.Laws.{kind-outside}
 use Rattle.declarations.specs.Program.{procedureIn, parameterKinds, resultKinds}
-use Rattle.declarations.proofs.Passes.{refused-accepted}
+use Rattle.declarations.proofs.Passes.{let-through, over-fine}
 use Rattle.acceptance.specs.Judged.{Bytes}
 use Rattle.acceptance.proofs.Instructions.{constant-low}
 use Rattle.semantics.specs.Calls.{callRow, argumentRow, maxListBytes, maxBudget, arguments, badKind, unusedByte, argumentFirst, allNumbers, noSuchProcedure, notNumbers, wrongCount, badBudget, badCall, listFault, listOf, call, callsFrom, callsOf}
@@ -30,11 +29,6 @@ use Rattle.semantics.specs.Callable.{Callable, GoodCall}
 other-fails : (a b : Bool) → (a && b) ≡ false → a ≡ true → b ≡ false
 other-fails true b e h = e
 other-fails false b e h = absurd (false≢true h)
-
--- a list that is not refused for its length
-list-cond : (b : Bool) (v : Verdict) (k : ℕ) → cond b (Refused 15 0) v ≡ Accepted k → (b ≡ false) × (v ≡ Accepted k)
-list-cond true v k e = absurd (refused-accepted e)
-list-cond false v k e = (refl, e)
 
 -- a row of a kind that is not 0 is there
 kind-there : (l : List ℕ) (k i : ℕ) → isKind l (suc k) i ≡ true → i < rowCount l
@@ -88,7 +82,7 @@ module _ (t : List ℕ) (ix : Index) where
   module _ (l : List ℕ) (k : ℕ) (e : listOf t ix l ≡ Accepted k) where
     parts : ((ltb maxListBytes (length l) || not (eqb (length l % rowBytes) 0)) ≡ false) × (passOver (listFault t ix l) (rowCount l) ≡ Accepted k)
     unfolding listOf
-    parts = list-cond _ _ k e
+    parts = let-through _ _ _ _ k e
 
     -- its length: whole rows, at most 256
     pub list-length : (length l ≤ maxListBytes) × (length l % rowBytes ≡ 0)
@@ -99,7 +93,7 @@ module _ (t : List ℕ) (ix : Index) where
 
     -- no row earns a refusal
     pub list-fine : (i : ℕ) → i < rowCount l → listFault t ix l i ≡ 0
-    list-fine i h = all-fine Accepted Refused (listFault t ix l) (λ n k i. refused-accepted) k 0 (rowCount l) (parts .1) i (omega arith) (omega arith)
+    list-fine = over-fine (listFault t ix l) (rowCount l) (parts .1)
 
     row-parts : (i : ℕ) → i < rowCount l
         → ((badKind (rowAt l i) || unusedByte (rowAt l i) || argumentFirst (rowAt l i) i) ≡ false) × ((eqb (rowAt l i .kind) callRow && badCall t ix (rowAt l i) (arguments l (i + 1) (rowCount l - (i + 1)))) ≡ false)

@@ -204,7 +204,7 @@ module _ (t : List ℕ) (J : Judged t (indexOf t)) where
   safe-outcome f row o m own s =
       ⊎-elim (λ e. outcome f o own s (m .within .1) (outcome-ok t J _ row o m) (handed-moment _ row o m e) e) (λ e. rw e (stops-there (inl refl))) (m .did)
 
-  safe-moment : (s : State) (row : ℕ) (o : Outcome) → MomentOk t J s row o → Safe t (indexOf t) (moment s row o)
+  pub safe-moment : (s : State) (row : ℕ) (o : Outcome) → MomentOk t J s row o → Safe t (indexOf t) (moment s row o)
   safe-moment (state fs h st n) row o m = go fs (m .holds .frames) m
     where
       v : Inv t (indexOf t) fs h st n

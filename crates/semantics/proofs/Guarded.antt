@@ -7,7 +7,7 @@ use mathlib.Core.Option.{Option, some}
 use native.Mathlib.Omega.{arith}
 use native.Mathlib.Decide.{decLt}
 use native.Mathlib.Nat.{add-zero}
-use borrow.Author.Tests.{eqb-true}
+use borrow.Author.Tests.{eqb-true, not-false}
 use lib.Dec.{eqb}
 use lib.ListN.{getElem? as nth}
 use Rattle.laws.specs.Lists.{member, every}
@@ -27,13 +27,13 @@ use Rattle.acceptance.proofs.Stretches.{kind-at}
 use Rattle.semantics.specs.Machine.{Cell, Entry, Frame}
 use Rattle.semantics.specs.Words.{typeRow, guardedField, kindsIn, Exists, NumberIn}
 use Rattle.semantics.specs.Claim.{Sound}
-use Rattle.semantics.proofs.Worded.{not-not, fine, covers}
+use Rattle.semantics.proofs.Worded.{fine, covers}
 use Rattle.semantics.proofs.Consequences.{number-there}
 
 -- a guarded field's row that the rows pass accepts declares a number
 guard-sort : (s : Above) (row : Row) → row .kind ≡ 3 → row .c ≡ 1 → badGuard s row ≡ false → row .a ≡ 0
 unfolding badGuard
-guard-sort s row k c e = let z : not (eqb (row .a) 0 && s .trusted) ≡ false = rw (k, c) at e in eqb-true (row .a) 0 (and-both (eqb (row .a) 0) (s .trusted) (not-not (eqb (row .a) 0 && s .trusted) z) .0)
+guard-sort s row k c e = let z : not (eqb (row .a) 0 && s .trusted) ≡ false = rw (k, c) at e in eqb-true (row .a) 0 (and-both (eqb (row .a) 0) (s .trusted) (not-false (eqb (row .a) 0 && s .trusted) z) .0)
 
 no-type : (row : Row) → row .kind ≡ 3 → row .a ≡ 0 → usesB row ≡ false
 unfolding usesB usedWith uses member
@@ -45,7 +45,7 @@ type-zero row u e =
     let a = dirty (usesA row) (row .a) in let b = dirty (usesB row) (row .b) in let c = dirty (usesC row) (row .c) in
     let w : dirty (usesB row) (row .b) ≡ false = neither a b (neither (a || b) c (neither (a || b || c) (dirty (usesD row) (row .d)) e .0) .0) .1 in
     let z : not (eqb (row .b) 0) ≡ false = rw u at w in
-    eqb-true (row .b) 0 (not-not (eqb (row .b) 0) z)
+    eqb-true (row .b) 0 (not-false (eqb (row .b) 0) z)
 
 guard-kind : (s : Above) (row : Row) → rowFault s row ≡ 0 → row .kind ≡ 3 → row .c ≡ 1 → rowKind row ≡ number
 unfolding rowKind

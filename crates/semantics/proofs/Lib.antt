@@ -25,6 +25,8 @@ pub mod Handing
 pub mod Invariant
 pub mod Stops
 pub mod Demand3
+pub mod Permitted
+pub mod ShutEntries
 pub mod Printed
 pub mod Ends
 pub mod Decimal

@@ -6,30 +6,30 @@ use mathlib.Core.List.{List, []}
 use native.Mathlib.Omega.{arith}
 use native.Mathlib.Decide.{decLt}
 use native.Mathlib.Numerals.{add-one}
-use borrow.Author.Tests.{eqb-true, eq-eqb}
+use borrow.Author.Tests.{eqb-true, eq-eqb, not-false}
 use lib.Dec.{eqb}
 use lib.ListN.{getD, List·getD-eq-default}
 use Rattle.laws.specs.Lists.{member, every, count, nth, entries}
 use Rattle.laws.proofs.Lists.{every-at, count-yes, count-no, nth-none, entries-at, entryOf-at, entryOf-none, length-entries}
 use Rattle.laws.proofs.Tests.{and-both}
 use Rattle.table.specs.declared.index.TypeEntry.{TypeEntry}
-use Rattle.table.specs.declared.index.ProcedureEntry.{ProcedureEntry}
 use Rattle.table.specs.declared.Row.{Row}
 use Rattle.table.specs.Format.{moduleKind, typeKind, fieldKind, procedureKind}
 use Rattle.table.specs.Rows.{rowCount, rowAt, kindAt, isKind}
-use Rattle.table.specs.Verdicts.{valueOf}
 use Rattle.table.specs.Index.{indexOf, indexedRows, noType, ownerAt, typeAt, procedureAt}
 use Rattle.table.specs.Procedures.{procedureRow}
 use Rattle.table.proofs.Laws.{row-outside}
 use Rattle.declarations.specs.Program.{typeIn, procedureIn, fieldRow}
-use Rattle.declarations.proofs.Laws.{nth-below, procedure-there}
+use Rattle.declarations.proofs.Laws.{nth-below}
 use Rattle.rows.proofs.Faults.{faultless}
 use Rattle.rows.specs.Rows.{faultAt, misplaced, mayFollow, aboveAt}
+use Rattle.sizes.specs.Formed.{Formed}
 use Rattle.sizes.proofs.Sizes.{rows-fine, nth-hit}
+use Rattle.sizes.proofs.Inside as Inside
 use Rattle.leaks.specs.Leaks.{inTrusted}
-use Rattle.judging.specs.Judging.{judgeOf, AcceptedTable}
-use Rattle.judging.proofs.Accepts.{accepting}
-use Rattle.judging.proofs.Values.{value-small}
+use Rattle.judging.specs.Judging.{AcceptedTable}
+use Rattle.judging.proofs.Accepts.{up-to-operands}
+use Rattle.acceptance.proofs.Helpers.{formed}
 use Rattle.acceptance.proofs.Guest.{moduleRow, module-here}
 use Rattle.acceptance.proofs.Counts.{row-trust, type-few}
 use Rattle.semantics.specs.Words.{typeCount, procedureCount, typeRow, moduleOf, declarer, moduleAbove, inGuest, guest, guardedField}
@@ -48,10 +48,6 @@ first-kind (suc (suc (suc (suc (suc (suc zero)))))) e = absurd (false≢true e)
 first-kind (suc (suc (suc (suc (suc (suc (suc zero))))))) e = absurd (false≢true e)
 first-kind (suc (suc (suc (suc (suc (suc (suc (suc k)))))))) e = absurd (false≢true e)
 
-pub not-not : (b : Bool) → not b ≡ false → b ≡ true
-not-not true e = refl
-not-not false e = absurd (true≢false e)
-
 two-values : (x : ℕ) → x < 2 → eqb x 0 ≡ not (eqb x 1)
 two-values zero h = refl
 two-values (suc zero) h = refl
@@ -62,12 +58,15 @@ unfolding isKind
 hit-kind t k i e = eqb-true _ _ e
 
 module _ (t : List ℕ) (a : AcceptedTable t) where
+  pub passed : Formed t
+  passed = formed (up-to-operands a)
+
   pub fine : (i : ℕ) → i < rowCount t → faultAt t i ≡ 0
   fine = rows-fine t (rowCount t) (a .byRows)
 
   -- the index covers every row
   pub covers : indexedRows t ≡ rowCount t
-  covers = let v : valueOf (judgeOf t) ≤ 2048 = value-small t in let l : rowCount t ≤ 2048 = rw (accepting t a) at v in omega (arith, l)
+  covers = Inside.whole t passed
 
   pub types-are : indexOf t .types ≡ typeCount t
   unfolding indexOf
@@ -95,16 +94,14 @@ module _ (t : List ℕ) (a : AcceptedTable t) where
       go (no l) = List·getD-eq-default (entries (isKind t typeKind) (typeAt t) noType (indexedRows t) 64) noType {n = y} (rw (length-entries (isKind t typeKind) (typeAt t) noType (indexedRows t) 64) (omega arith))
 
   pub procedure-is : (p : ℕ) → p < indexOf t .procedures → p < 128 → procedureIn (indexOf t) p ≡ procedureAt t (procedureRow t p)
-  unfolding procedureRow
-  procedure-is p there few = procedure-there t p there few .0 ∙ ap (λ (n : ℕ). procedureAt t (nth (isKind t procedureKind) n p)) covers
+  procedure-is p there few = Inside.entry-row t passed p there
 
   pub declarer-is : (y : ℕ) → y < indexOf t .types → declarerIn (indexOf t) y ≡ declarer t y
   unfolding typeAt
   declarer-is y there = ap (λ (e : TypeEntry). e .owner) (type-is y there)
 
   pub module-is : (p : ℕ) → p < indexOf t .procedures → p < 128 → moduleIn (indexOf t) p ≡ moduleOf t p
-  unfolding procedureAt
-  module-is p there few = ap (λ (e : ProcedureEntry). e .owner) (procedure-is p there few)
+  module-is p there few = Inside.module-is t passed p there
 
   -- past the last row there is no field
   nothing-there : (i : ℕ) → rowCount t ≤ i → isKind t fieldKind i ≡ false
@@ -128,7 +125,7 @@ module _ (t : List ℕ) (a : AcceptedTable t) where
   -- Modules. The first row is one
   first-module : 0 < rowCount t → isKind t moduleKind 0 ≡ true
   unfolding isKind kindAt faultAt misplaced aboveAt
-  first-module h = eq-eqb (rowAt t 0 .kind) 1 (first-kind (rowAt t 0 .kind) (not-not _ (faultless (aboveAt t 0) (rowAt t 0) .0 (fine 0 h) .placed)))
+  first-module h = eq-eqb (rowAt t 0 .kind) 1 (first-kind (rowAt t 0 .kind) (not-false _ (faultless (aboveAt t 0) (rowAt t 0) .0 (fine 0 h) .placed)))
 
   -- so there is one above every other row, and the nearest is the one that is counted
   Above-is : ℕ → Type 0

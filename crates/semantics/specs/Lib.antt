@@ -6,6 +6,7 @@ pub mod History
 pub mod Ascii
 pub mod Text
 pub mod Run
+pub mod Permitted
 pub mod Ownership
 pub mod Words
 pub mod Stops

@@ -1,4 +1,5 @@
--- Running a list of calls over a table (document 01): judge the table, then the list, then the buffer, and only then call.
+-- Running a list of calls over a table (document 01): judge the table, under a rule file where there is one, then the list, then the buffer, and only
+-- then call.
 use Prim.Native.Nat.{ℕ}
 use mathlib.Core.Bool.{cond}
 use mathlib.Core.List.{List, _++_}
@@ -9,7 +10,7 @@ use Rattle.table.specs.declared.Verdict.the-variants.{Accepted, Refused}
 use Rattle.table.specs.Index.{indexOf}
 use Rattle.table.specs.Verdicts.{andThen}
 use Rattle.table.specs.Refusals.{smallBuffer}
-use Rattle.judging.specs.Judging.{judgeOf}
+use Rattle.judging.specs.Judging.{judgeUnder}
 use Rattle.semantics.specs.Calls.{listOf, callsOf}
 use Rattle.semantics.specs.History.{Event, history, nothing}
 use Rattle.semantics.specs.Text.{textOf}
@@ -27,8 +28,8 @@ unfoldable pub historyOf : List ℕ → List ℕ → List Event
 historyOf t l = history t (indexOf t) (callsOf l) nothing
 
 -- what running answers: a refusal, or the length of the text
-unfoldable pub answerWith : List ℕ → List ℕ → List ℕ → List ℕ → Verdict
-answerWith t l buffer text = andThen (judgeOf t) (andThen (listOf t (indexOf t) l) (bufferOf text buffer))
+unfoldable pub answerWith : ℕ → List ℕ → List ℕ → List ℕ → List ℕ → List ℕ → Verdict
+answerWith has r t l buffer text = andThen (judgeUnder has r t) (andThen (listOf t (indexOf t) l) (bufferOf text buffer))
 
 -- the buffer afterwards: as it was after a refusal, else the text and then the old bytes
 abbrev pub bufferWith : Verdict → List ℕ → List ℕ → List ℕ
@@ -40,8 +41,8 @@ pub record Ran : Type 0 where
   pub answer : Verdict
   pub buffer : List ℕ
 
-unfoldable pub runOf : List ℕ → List ℕ → List ℕ → Ran
-runOf t l buffer =
+unfoldable pub runOf : ℕ → List ℕ → List ℕ → List ℕ → List ℕ → Ran
+runOf has r t l buffer =
     let text = textOf (historyOf t l) in
-    let answer = answerWith t l buffer text in
+    let answer = answerWith has r t l buffer text in
     record { answer = answer; buffer = bufferWith answer buffer text }

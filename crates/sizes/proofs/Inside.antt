@@ -1,6 +1,6 @@
 -- What the passes length, rows and names give of a procedure: how large it is, where its rows stand, where its walks go on, and what its Calls name.
 use Prim.Native.Nat.{ℕ, _+_, _-_, _<_, _≤_}
-use mathlib.Core.Path.{_≡_, refl, sym, _∙_}
+use mathlib.Core.Path.{_≡_, refl, sym, ap, _∙_}
 use mathlib.Core.Bool.{Bool, true, false, cond, not}
 use mathlib.Core.List.{List, [], _∷_}
 use mathlib.Core.Logic.{_⊎_, inl, inr}
@@ -8,20 +8,21 @@ use native.Mathlib.Decide.{decLt}
 use native.Mathlib.Omega.{arith}
 use borrow.Author.Tests.{eqb-true, eqb-false, lt-ltb}
 use lib.Dec.{eqb}
-use Rattle.laws.specs.Lists.{count}
+use Rattle.laws.specs.Lists.{count, nth}
 use Rattle.laws.proofs.Lists.{find-within, nth-count}
 use Rattle.table.specs.declared.index.ProcedureEntry.{ProcedureEntry}
-use Rattle.table.specs.Format.{procedureKind, instructionKind, opCall, opRet, opBranch, opBranchCond}
+use Rattle.table.specs.Format.{moduleKind, procedureKind, instructionKind, opCall, opRet, opBranch, opBranchCond}
 use Rattle.table.specs.Rows.{rowCount, rowAt, kindAt, isKind}
-use Rattle.table.specs.Index.{indexOf, indexedRows, procedureAt, codeStart}
-use Rattle.table.proofs.Laws.{row-outside, is-kind, procedure-code}
+use Rattle.table.specs.Index.{indexOf, indexedRows, ownerAt, procedureAt, codeStart, codeEnd}
+use Rattle.table.specs.Procedures.{procedureRow}
+use Rattle.table.proofs.Laws.{row-outside, is-kind, not-kind, procedure-code}
 use Rattle.declarations.specs.Program.{localCount, isParameter, parametersEnd, parameterCount, codeOf, codeLength}
 use Rattle.declarations.proofs.Laws.{procedure-there}
 use Rattle.flow.specs.Steps.{below, nextOf, nexts}
 use Rattle.names.specs.Names.{names}
 use Rattle.sizes.specs.Formed.{Formed}
 use Rattle.sizes.proofs.Sizes.{rows-fine, sized}
-use Rattle.sizes.proofs.Rows.{own, rowOf, row-below, entry-is, row-kind, row-count, parts, own-number, code-count, code-row, code-place, code-some, code-ends, code-named}
+use Rattle.sizes.proofs.Rows.{own, rowOf, row-below, entry-is, row-kind, row-kinds, row-count, parts, own-number, code-count, code-row, code-place, code-some, code-ends, code-named, count-stretch}
 use Rattle.sizes.proofs.Counts as Counts
 use Rattle.sizes.proofs.Places as Places
 
@@ -77,6 +78,15 @@ module _ (t : List ℕ) (f : Formed t) where
     pub head-below : own t q .row < rowCount t
     head-below = omega (arith, order)
 
+    -- the entry and the module that it has are those of its row, counted from all rows
+    pub entry-row : own t q ≡ procedureAt t (procedureRow t q)
+    unfolding procedureRow
+    entry-row = procedure-there t q there few .0 ∙ ap (λ (n : ℕ). procedureAt t (nth (isKind t procedureKind) n q)) whole
+
+    pub module-is : own t q .owner ≡ ownerAt t (procedureRow t q)
+    unfolding procedureAt
+    module-is = ap (λ (p : ProcedureEntry). p .owner) entry-row
+
     -- instruction i
     module _ (i : ℕ) (h : i < rowCount (codeOf t (own t q))) where
       pub code-below : own t q .code + i < rowCount t
@@ -92,6 +102,20 @@ module _ (t : List ℕ) (f : Formed t) where
 
       pub code-number : count (isKind t procedureKind) (own t q .code + i) - 1 ≡ q
       code-number = let p = code-place t q there few i h in own-number t q there few (own t q .code + i) (p .0) (p .1)
+
+      -- it stands in the same module
+      pub owner-is : ownerAt t (own t q .code + i) ≡ own t q .owner
+      unfolding ownerAt procedureAt
+      owner-is =
+          ap (λ (k : ℕ). k - 1) (count-stretch (isKind t moduleKind) at (own t q .code + i) (omega (arith, place)) (λ j lo hi. not-kind t j moduleKind refl (no-module j lo hi (decLt at j))))
+          ∙ sym (ap (λ (p : ProcedureEntry). p .owner) (entry-is t q there few))
+        where
+          place : (at < own t q .code + i) × (own t q .code + i < codeEnd t at)
+          place = code-place t q there few i h
+
+          no-module : (j : ℕ) → at ≤ j → j < own t q .code + i → Dec (at < j) → kindAt t j ≡ moduleKind → ⊥
+          no-module j lo hi (yes l) e = omega (arith, row-kinds t q there few j l (omega (arith, place)), e)
+          no-module j lo hi (no l) e = let z : j ≡ at = omega arith in omega (arith, row-kind t q there few, rw z at e)
 
       -- what it jumps to is an instruction of the same procedure
       pub jump-there : (rowAt (codeOf t (own t q)) i .a ≡ opBranch) ⊎ (rowAt (codeOf t (own t q)) i .a ≡ opBranchCond) → rowAt (codeOf t (own t q)) i .b < rowCount (codeOf t (own t q))

@@ -11,10 +11,9 @@ use native.Mathlib.Omega.{arith}
 use borrow.Author.Tests.{leb-false, eqb-true}
 use lib.ListN.{length, getD, take, drop, length-take, length-append, List·getD-eq-default}
 use Rattle.laws.specs.Lists.{member, hits, nth, count}
-use Rattle.laws.proofs.First.{all-fine}
 use Rattle.laws.proofs.Lists.{getD-snoc-old, getD-snoc-new, length-entries}
 use Rattle.table.specs.declared.Row.{Row}
-use Rattle.table.specs.declared.Verdict.the-variants.{Accepted, Refused}
+use Rattle.table.specs.declared.Verdict.the-variants.{Accepted}
 use Rattle.table.specs.declared.index.ProcedureEntry.{ProcedureEntry}
 use Rattle.table.specs.Format.{procedureKind}
 use Rattle.table.specs.Rows.{rowCount, rowAt, kindAt, isKind}
@@ -27,15 +26,12 @@ use Rattle.rows.specs.Rows.{rowsOf, faultAt, rowFault, tooMany, aboveAt, belowR
 use Rattle.declarations.specs.Program.{Sized, localCount, codeOf, procedureIn, codePass}
 use Rattle.declarations.specs.Limits.{overLimits, limited}
 use Rattle.declarations.proofs.Laws.{procedure-there, limits-hold, limited-in}
-use Rattle.declarations.proofs.Passes.{pass-same}
+use Rattle.declarations.proofs.Passes.{pass-same, over-fine}
 
 -- an accepted table has no faulty row
-apart : (n k i : ℕ) → Refused k i ≡ Accepted n → ⊥
-apart n k i e = let z : _≡_ {A = ℕ} 0 1 = cc in omega arith
-
 pub rows-fine : (t : List ℕ) (n : ℕ) → rowsOf t ≡ Accepted n → (i : ℕ) → i < rowCount t → faultAt t i ≡ 0
 unfolding rowsOf
-rows-fine t n e i h = all-fine Accepted Refused (faultAt t) apart n 0 (rowCount t) e i (omega arith) (omega arith)
+rows-fine t n e = over-fine (faultAt t) (rowCount t) e
 
 -- a row without fault passes no limit
 within-limit : (s : Above) (row : Row) → rowFault s row ≡ 0 → countOf s (row .kind) < getD limits (row .kind) 0

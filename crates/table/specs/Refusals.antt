@@ -56,6 +56,16 @@ markGiven = 13
 abbrev pub markReturned : ℕ
 markReturned = 14
 
+-- rules, where there is a rule file: malformed; a pair of modules under no row of it, or under several; a Call that it forbids
+abbrev pub badRules : ℕ
+badRules = 20
+
+abbrev pub unruledPair : ℕ
+unruledPair = 21
+
+abbrev pub forbiddenCall : ℕ
+forbiddenCall = 22
+
 -- running: the list; a call; the text buffer
 abbrev pub badList : ℕ
 badList = 15
@@ -84,3 +94,6 @@ localRefusals = emptyLocal ∷ lostRecord ∷ []
 
 abbrev pub leakRefusals : List ℕ
 leakRefusals = markGiven ∷ markReturned ∷ []
+
+abbrev pub ruleRefusals : List ℕ
+ruleRefusals = badRules ∷ unruledPair ∷ forbiddenCall ∷ []

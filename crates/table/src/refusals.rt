@@ -38,6 +38,13 @@ pub const MARK_GIVEN: u8 = 13;
 
 pub const MARK_RETURNED: u8 = 14;
 
+// Rules, where there is a rule file: malformed; a pair of modules under no row of it, or under several; a Call that it forbids.
+pub const BAD_RULES: u8 = 20;
+
+pub const UNRULED_PAIR: u8 = 21;
+
+pub const FORBIDDEN_CALL: u8 = 22;
+
 // Running: the list; a call; the text buffer.
 pub const BAD_LIST: u8 = 15;
 

@@ -2,6 +2,7 @@
 
 use crate::program::Sort;
 use crate::row::{kind, op, write_rows, Row};
+use crate::rules::{Rule, RULE};
 
 /// One instruction to write.
 #[derive(Clone, Copy, Debug, PartialEq, Eq)]
@@ -222,4 +223,11 @@ pub fn call_row(procedure: u16, budget: u32) -> Row {
 /// Row of a call list: an argument.
 pub fn argument_row(number: u64) -> Row {
     Row { kind: 2, d: number, ..Row::default() }
+}
+
+/// Row of a rule file.
+pub fn rule_row(rule: &Rule) -> Row {
+    let Rule { allows, callers, called } = *rule;
+    let c = u32::from_le_bytes([callers.0, callers.1, called.0, called.1]);
+    Row { kind: RULE, a: allows.into(), c, ..Row::default() }
 }

@@ -1,10 +1,12 @@
-//! The made runs: case `number` of a seed is a table, a call list and the length of a text buffer.
+//! The made runs: case `number` of a seed is a table, a call list, a rule file and the length of a text buffer.
 
+use super::callers;
 use super::helpers;
 use super::keys;
 use super::kit::{Id, Kit, ALL};
 use super::plan::{argument_row, asm::call, call_row, Plan, ProcPlan};
 use super::rng::Rng;
+use super::rules::{self, RuleFile};
 use super::tables;
 use crate::machine::{Machine, Outcome, Watch};
 use crate::program::{Instr, Program, Sort};
@@ -15,13 +17,29 @@ use crate::stop::{Stop, STOPS};
 pub struct Case {
     pub table: Vec<u8>,
     pub list: Vec<u8>,
+    pub rules: RuleFile,
     pub text_len: usize,
 }
+
+/// Of 100 runs so many are made for rule files. A stream of its own says which ones.
+const CALLERS: usize = 10;
 
 /// Calls before their budgets are chosen.
 type Script = Vec<(Id, Vec<u64>)>;
 
 pub fn case(seed: u64, number: u64) -> Case {
+    let (table, list, text_len) = table_and_list(seed, number);
+    let rules = rules::for_run(seed, number, &table);
+    Case { table, list, rules, text_len }
+}
+
+fn table_and_list(seed: u64, number: u64) -> (Vec<u8>, Vec<u8>, usize) {
+    let mut rng = Rng::stream(seed, 6, number);
+    if rng.chance(CALLERS) {
+        let (table, list) = caller_run(&mut rng);
+        let text_len = if rng.chance(4) { rng.below(limit::TEXT_BYTES) } else { limit::TEXT_BYTES };
+        return (table, list, text_len);
+    }
     let mut rng = Rng::stream(seed, 2, number);
     let rng = &mut rng;
     let mut text_len = limit::TEXT_BYTES + if rng.chance(5) { rng.below(5_000) } else { 0 };
@@ -67,7 +85,7 @@ pub fn case(seed: u64, number: u64) -> Case {
         }
         _ => helper_run(rng),
     };
-    Case { table, list, text_len }
+    (table, list, text_len)
 }
 
 fn some_bytes(rng: &mut Rng) -> Vec<u8> {
@@ -224,6 +242,17 @@ pub fn helper_run(rng: &mut Rng) -> (Vec<u8>, Vec<u8>) {
         }
     }
     run_of(rng, plan.bytes())
+}
+
+/// A table of modules that call one another, to some depth.
+pub fn caller_run(rng: &mut Rng) -> (Vec<u8>, Vec<u8>) {
+    let table = callers::plan(rng).bytes();
+    let (table, mut list) = run_of(rng, table);
+    if rng.chance(6) && !list.is_empty() {
+        let at = rng.below(list.len());
+        list[at] ^= 1 << rng.below(8);
+    }
+    (table, list)
 }
 
 // Runs of kit procedures.

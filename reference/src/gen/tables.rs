@@ -1,13 +1,17 @@
-//! The made tables: table `number` of a seed.
+//! The made tables: table `number` of a seed, and its rule file.
 
 use super::rng::Rng;
+use super::rules::{self, RuleFile};
 use super::structured::{self, some_size};
 use super::wild::{self, Flavour};
-use super::{faults, helpers, limits, mutate, row_faults, view_faults};
+use super::{callers, faults, helpers, limits, mutate, row_faults, view_faults};
 use crate::row::{kind, write_rows, Row};
 
 /// Every so many tables one of the tables at the limits.
 const LIMIT_EVERY: u64 = 25;
+
+/// Of 100 tables so many are made for rule files. A stream of its own says which ones.
+const CALLERS: usize = 16;
 
 /// Refusals with their weights: those that mutations seldom bring are aimed at more often.
 const TARGETS: [(usize, u32); 16] = [
@@ -29,9 +33,25 @@ const TARGETS: [(usize, u32); 16] = [
     (3, 14),
 ];
 
+#[derive(Clone, Debug)]
+pub struct TableCase {
+    pub table: Vec<u8>,
+    pub rules: RuleFile,
+}
+
+pub fn case(seed: u64, number: u64) -> TableCase {
+    let table = table(seed, number);
+    let rules = rules::for_table(seed, number, &table);
+    TableCase { table, rules }
+}
+
 pub fn table(seed: u64, number: u64) -> Vec<u8> {
     if number % LIMIT_EVERY == LIMIT_EVERY - 1 {
         return limits::table((number / LIMIT_EVERY) as usize % limits::TABLES);
+    }
+    let mut rng = Rng::stream(seed, 5, number);
+    if rng.chance(CALLERS) {
+        return callers::plan(&mut rng).bytes();
     }
     let mut rng = Rng::stream(seed, 1, number);
     match rng.below(123) {

@@ -117,7 +117,7 @@ pub fn refused(rows: &[Row], number: u32, row: usize) {
 /// The text of a run, which must not be refused.
 #[track_caller]
 pub fn text(table: &[Row], list: &[Row]) -> String {
-    let text = reference::run(&write_rows(table), &write_rows(list), BUFFER).expect("not refused");
+    let text = reference::run(&write_rows(table), &write_rows(list), None, BUFFER).expect("not refused");
     String::from_utf8(text).expect("plain text")
 }
 

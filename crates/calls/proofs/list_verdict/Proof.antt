@@ -1,7 +1,7 @@
-use Prim.Native.Nat.{ℕ, _-_, _≤_}
-use mathlib.Core.Path.{_≡_, sym, ap, _∙_}
+use Prim.Native.Nat.{_-_, _≤_}
+use mathlib.Core.Path.{_≡_, sym, _∙_}
 use borrow.Author.Tests.{lt-ltb, le-ltb, ne-eqb}
-use Rattle.laws.proofs.First.{from, fine, faulty, done, whole}
+use Rattle.laws.proofs.First.{from, fine, faulty-with, done, whole}
 use Rattle.table.specs.declared.Verdict.the-variants.{Accepted, Refused}
 use Rattle.table.specs.Rows.{rowCount}
 use Rattle.semantics.specs.Calls.{listFault, listOf}
@@ -30,7 +30,7 @@ loop-holds c = (omega arith, rw (le-ltb _ _ (c .before .if1 .left), c .if2 .left
 
 returns-3 : tie.Need-returns-3 Inv-loop μ-loop
 returns-3 c = let z = sym (c .before .list-fault .ensures) in
-    sym (c .before .before .before .loop .inv .1 ∙ faulty Accepted Refused _ _ _ (omega arith) (λ q. c .if3 .taken (sym z ∙ q)) ∙ ap (λ (x : ℕ). Refused x (c .before .before .before .loop .i)) z)
+    sym (c .before .before .before .loop .inv .1 ∙ faulty-with Accepted Refused _ _ _ _ (omega arith) z (c .if3 .taken))
 
 loop-again : tie.Need-loop-again Inv-loop μ-loop
 loop-again c = (omega arith, c .before .before .before .loop .inv .1 ∙ fine Accepted Refused _ _ _ (omega arith) (sym (c .before .list-fault .ensures) ∙ c .if3 .left))

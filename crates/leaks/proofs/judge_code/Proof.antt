@@ -1,11 +1,11 @@
 -- The invariant: no instruction before instruction i is faulty.
 use Prim.Native.Nat.{ℕ, _+_, _-_, _/_, _≤_}
-use mathlib.Core.Path.{_≡_, sym, ap, _∙_}
+use mathlib.Core.Path.{_≡_, sym, _∙_}
 use mathlib.Core.Logic.{⊎-elim}
 use native.Mathlib.Omega.{arith}
 use borrow.Author.Needs.{needs}
 use lib.ListN.{length, length-map, List·getD-eq-default}
-use Rattle.laws.proofs.First.{from, fine, faulty, done, whole}
+use Rattle.laws.proofs.First.{from, fine, faulty-with, done, whole}
 use Rattle.table.specs.declared.Verdict.the-variants.{Accepted, Refused}
 use Rattle.declarations.specs.Program.{procedureIn, codeVerdict}
 use Rattle.leaks.specs.Leaks.{leakFrom}
@@ -39,7 +39,7 @@ fault c = fault-is (c .before .before .before .before .before .before .before .b
 returns : tie.Need-returns Inv-loop μ-loop
 returns c =
     let z = fault (c .before .before) in
-    sym (c .before .before .before .before .before .before .before .before .loop .inv .1 ∙ faulty Accepted (λ (number j : ℕ). Refused number (_ + j)) _ _ _ (omega arith) (λ q. c .before .if2 .taken (sym z ∙ q)) ∙ ap (λ (x : ℕ). Refused x (c .before .before .before .before .before .before .before .before .before .before .before .before .args .own .code + c .before .before .before .before .before .before .before .before .loop .i)) z)
+    sym (c .before .before .before .before .before .before .before .before .loop .inv .1 ∙ faulty-with Accepted (λ (number j : ℕ). Refused number (_ + j)) _ _ _ _ (omega arith) z (c .before .if2 .taken))
 
 loop-again : tie.Need-loop-again Inv-loop μ-loop
 loop-again c = (omega arith, c .before .before .before .before .before .before .before .loop .inv .1 ∙ fine Accepted (λ (number j : ℕ). Refused number (_ + j)) _ _ _ (omega arith) (fault (c .before) ∙ c .if2 .left))

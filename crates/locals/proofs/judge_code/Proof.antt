@@ -3,9 +3,9 @@ use Rattle.locals.specs.Faults.{faultFrom}
 use Rattle.declarations.specs.Program.{codeVerdict}
 use Rattle.table.specs.Rows.{rowAt, rowCount}
 use Rattle.table.specs.declared.Verdict.the-variants.{Accepted, Refused}
-use Rattle.laws.proofs.First.{from, fine, faulty, done, whole}
+use Rattle.laws.proofs.First.{from, fine, faulty-with, done, whole}
 use Prim.Native.Nat.{ℕ, _+_, _-_, _≤_}
-use mathlib.Core.Path.{_≡_, sym, ap, _∙_}
+use mathlib.Core.Path.{_≡_, sym, _∙_}
 use borrow.Author.Needs.{needs}
 use native.Mathlib.Omega.{arith}
 use Rattle.locals.proofs.judge_code.Statement.{statement}
@@ -25,7 +25,7 @@ loop-holds c = (omega arith, whole Accepted (λ (number j : ℕ). Refused number
 returns : tie.Need-returns Inv-loop μ-loop
 returns c =
     let z : faultFrom (c .before .before .before .before .before .before .before .before .args .nodes .now) (rowAt (c .before .before .before .before .before .before .before .before .args .code .now) (c .before .before .before .before .before .loop .i)) (rowCount (c .before .before .before .before .before .before .before .before .args .code .now)) (c .before .before .before .before .before .before .before .before .args .count) (c .before .before .before .before .before .before .before .before .args .records) (c .before .before .before .before .before .loop .i) ≡ c .before .before .fault-at .result = rw (← c .before .before .before .row-at .ensures) (sym (c .before .before .fault-at .ensures)) in
-    sym (c .before .before .before .before .before .loop .inv .1 ∙ faulty Accepted (λ (number j : ℕ). Refused number (_ + j)) _ _ _ (omega arith) (λ q. c .before .if1 .taken (sym z ∙ q)) ∙ ap (λ (x : ℕ). Refused x (c .before .before .before .before .before .before .before .before .args .own .code + c .before .before .before .before .before .loop .i)) z)
+    sym (c .before .before .before .before .before .loop .inv .1 ∙ faulty-with Accepted (λ (number j : ℕ). Refused number (_ + j)) _ _ _ _ (omega arith) z (c .before .if1 .taken))
 
 loop-again : tie.Need-loop-again Inv-loop μ-loop
 loop-again c =

@@ -1,13 +1,13 @@
 -- The invariant: y types and p procedures begin above row i, own is procedure p - 1, and no row above i has a fault.
-use Prim.Native.Nat.{ℕ, _≤_, _-_, _/_}
+use Prim.Native.Nat.{_≤_, _-_, _/_}
 use mathlib.Core.Logic.{⊎-elim}
-use mathlib.Core.Path.{_≡_, refl, sym, ap, _∙_}
+use mathlib.Core.Path.{_≡_, refl, sym, _∙_}
 use native.Mathlib.Omega.{arith}
 use borrow.Author.Needs.{needs}
 use lib.Dec.{eqb}
 use lib.ListN.{length, length-map, List·getD-eq-default}
 use Rattle.laws.specs.Lists.{count, hits}
-use Rattle.laws.proofs.First.{from, fine, faulty, done, whole}
+use Rattle.laws.proofs.First.{from, fine, faulty-with, done, whole}
 use Rattle.laws.proofs.Lists.{count-few}
 use Rattle.table.specs.declared.Verdict.the-variants.{Accepted, Refused}
 use Rattle.table.specs.Format.{typeKind, procedureKind}
@@ -53,7 +53,7 @@ fault-is c =
 
 returns : tie.Need-returns Inv-loop μ-loop
 returns c = let z = fault-is (c .before) in
-    sym (c .before .before .before .before .before .before .before .loop .inv .4 ∙ faulty Accepted Refused _ _ _ (omega arith) (λ q. c .if3 .taken (sym z ∙ q)) ∙ ap (λ (x : ℕ). Refused x (c .before .before .before .before .before .before .before .loop .i)) z)
+    sym (c .before .before .before .before .before .before .before .loop .inv .4 ∙ faulty-with Accepted Refused _ _ _ _ (omega arith) z (c .if3 .taken))
 
 counted-requires : tie.Need-counted-requires Inv-loop μ-loop
 counted-requires c κs = omega (arith, count-few (isKind (c .before .before .before .before .before .before .before .before .before .before .args .table .now) typeKind) (c .before .before .before .before .before .before .before .loop .i))

@@ -7,7 +7,7 @@ use mathlib.Core.List.{[]}
 use native.Mathlib.Omega.{arith}
 use borrow.Author.Needs.{needs}
 use lib.ListN.{length, length-map, List·getD-eq-default}
-use Rattle.laws.proofs.First.{from, fine, faulty, done, whole}
+use Rattle.laws.proofs.First.{from, fine, faulty-with, done, whole}
 use Rattle.table.specs.declared.Verdict.the-variants.{Accepted, Refused}
 use Rattle.declarations.specs.Program.{typeIn, procedureIn, codeVerdict}
 use Rattle.effects.specs.Kinds.{view, good, topFirst}
@@ -50,7 +50,7 @@ here-is c =
 
 returns : tie.Need-returns Inv-loop μ-loop
 returns c = let z = here-is (c .before .before) .0 in
-    sym (c .before .before .before .before .before .before .before .before .before .before .before .before .before .loop .inv .2 ∙ faulty Accepted (λ (number i : ℕ). Refused number (_ + i)) _ _ _ (omega arith) (λ q. c .before .if3 .taken (sym z ∙ q)) ∙ ap (λ (x : ℕ). Refused x (c .before .before .before .before .before .before .before .before .before .before .before .before .before .before .before .before .before .args .own .code + c .before .before .before .before .before .before .before .before .before .before .before .before .before .loop .i)) z)
+    sym (c .before .before .before .before .before .before .before .before .before .before .before .before .before .loop .inv .2 ∙ faulty-with Accepted (λ (number i : ℕ). Refused number (_ + i)) _ _ _ _ (omega arith) z (c .before .if3 .taken))
 
 loop-again : tie.Need-loop-again Inv-loop μ-loop
 loop-again c = let z = here-is (c .before .before) in

@@ -24,4 +24,4 @@ loop-again : tie.Need-loop-again Inv-loop μ-loop
 loop-again c = omega (arith, fits c)
 
 pub read-on-spec : {M : Type 1} → statement M
-read-on-spec = tie.close (tie.spec Inv-loop μ-loop (λ c. search needs) (λ c. search needs) (λ c. search needs) (λ c. search needs) (λ c κs. search needs) (λ c. search needs) (λ c. search needs) (λ c. search needs) (λ c. search needs) (λ c. search needs) (λ c. search needs) add-done (λ c. search needs) loop-again (λ c. search needs) (λ c. search needs))
+read-on-spec = tie.close (tie.spec Inv-loop μ-loop (λ c. search needs) (λ c. search needs) (λ c. search needs) (λ c. search needs) (λ c κs. search needs) (λ c. search needs) (λ c. search needs) (λ c. search needs) (λ c. search needs) (λ c. search needs) add-done (λ c. search needs) loop-again (λ c. search needs) (λ c. search needs))

@@ -1,11 +1,11 @@
 use Rattle.rows.proofs.Laws.{fits-below}
 use Rattle.rows.specs.Rows.{rowsOf, faultAt, aboveAt}
 use Rattle.table.specs.declared.Verdict.the-variants.{Accepted, Refused}
-use Rattle.laws.proofs.First.{from, fine, faulty, done, whole}
+use Rattle.laws.proofs.First.{from, fine, faulty-with, done, whole}
 use native.Mathlib.Numerals.{add-one}
 use lib.ListN.{length}
-use mathlib.Core.Path.{_≡_, refl, sym, ap, _∙_}
-use Prim.Native.Nat.{ℕ, _≤_, _-_, _/_, _+_}
+use mathlib.Core.Path.{_≡_, refl, sym, _∙_}
+use Prim.Native.Nat.{_≤_, _-_, _/_, _+_}
 use borrow.Author.Needs.{needs}
 use native.Mathlib.Omega.{arith}
 use Rattle.rows.proofs.rows_pass.Statement.{statement}
@@ -24,7 +24,7 @@ loop-holds c = (omega arith, refl, whole Accepted Refused _ _)
 returns : tie.Need-returns Inv-loop μ-loop
 unfolding faultAt
 returns c = let z : faultAt (c .before .before .before .before .before .before .args .table .now) (c .before .before .before .before .loop .i) ≡ c .before .row-fault .result = cc in
-    sym (c .before .before .before .before .loop .inv .2 ∙ faulty Accepted Refused _ _ _ (omega arith) (λ q. c .if1 .taken (sym z ∙ q)) ∙ ap (λ (x : ℕ). Refused x (c .before .before .before .before .loop .i)) z)
+    sym (c .before .before .before .before .loop .inv .2 ∙ faulty-with Accepted Refused _ _ _ _ (omega arith) z (c .if1 .taken))
 
 below-requires : tie.Need-below-requires Inv-loop μ-loop
 below-requires c κs = fits-below _ _ (sym (c .before .row-fault .ensures) ∙ c .if1 .left)

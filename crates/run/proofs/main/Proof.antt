@@ -19,4 +19,4 @@ slice-aggregate-run-files-2 : tie.Need-slice-aggregate-run-files-2
 slice-aggregate-run-files-2 c = sym (length-take-le _ _ (omega (arith, rw (c .before .before .before .of-list .given .1) at (c .before .before .before .before .before .before .read-file2 .ensures))))
 
 pub main-spec : {M : Type 1} → statement M
-main-spec = tie.close (tie.spec (λ c. search needs) (λ c. search needs) (λ c κs. search needs) (λ c. search needs) (λ c. search needs) (λ c. search needs) (λ c. search needs) (λ c. search needs) (λ c κs. search needs) (λ c. search needs) (λ c. search needs) (λ c. search needs) array-share-prefix-table slice-aggregate-run-files array-share-prefix-list slice-aggregate-run-files-2 (λ c. search needs) (λ c κs. search needs) (λ c. search needs))
+main-spec = tie.close (tie.spec (λ c. search needs) (λ c. search needs) (λ c κs. search needs) (λ c. search needs) (λ c. search needs) (λ c. search needs) (λ c. search needs) (λ c κs. search needs) (λ c. search needs) (λ c. search needs) array-share-prefix-table slice-aggregate-run-files array-share-prefix-list slice-aggregate-run-files-2 (λ c κs. search needs) (λ c. search needs))

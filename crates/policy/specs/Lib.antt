@@ -1,0 +1,3 @@
+pub mod Policy
+pub mod Allowed
+pub mod Grid
