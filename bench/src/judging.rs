@@ -1,6 +1,7 @@
 //! The judge against the reference judge: in speed, on tables of several sizes and under several rule files, and in its answers, on
 //! made tables under made rule files.
 
+use crate::times::Times;
 use crate::{policies, proved};
 use reference::gen::rounds as marks;
 use reference::gen::tables;
@@ -72,8 +73,10 @@ pub fn rounds(procedures: usize, locals: u16) -> Vec<u8> {
     rows.concat()
 }
 
-/// Samples of which the shortest counts, and the length of each in nanoseconds: short enough that most are not interrupted.
-const SAMPLES: usize = 400;
+/// Passes over all tables and samples of each table in a pass, of which the shortest counts, and the length of each in nanoseconds:
+/// short enough that most are not interrupted.
+const PASSES: usize = 4;
+const SAMPLES: usize = 100;
 const SAMPLE: f64 = 200_000.0;
 
 /// What is judged. No rules are no rule file.
@@ -103,20 +106,33 @@ impl Given<'_> {
     fn calls(self, judge: Judge) -> usize {
         (SAMPLE / self.sample(judge, 5)).max(1.0) as usize
     }
+}
 
-    /// The times of one call of the two judges, each the least of many short samples, taken in turn.
-    fn times(self) -> (f64, f64) {
-        let (ours, theirs) = (self.calls(proved::judge), self.calls(plain));
-        (0..SAMPLES).fold((f64::INFINITY, f64::INFINITY), |(a, b), _| {
-            (a.min(self.sample(proved::judge, ours)), b.min(self.sample(plain, theirs)))
-        })
+/// The times of one call for each that is given, by each judge, the least of many short samples. The tables take turns, so that slow times
+/// of the computer meet all of them.
+fn least_times<const JUDGES: usize>(given: &[Given], judges: [Judge; JUDGES]) -> Vec<[f64; JUDGES]> {
+    let mut least = vec![[f64::INFINITY; JUDGES]; given.len()];
+    for _ in 0..PASSES {
+        for (given, least) in given.iter().zip(&mut least) {
+            let calls = judges.map(|judge| given.calls(judge));
+            for _ in 0..SAMPLES {
+                for number in 0..JUDGES {
+                    least[number] = least[number].min(given.sample(judges[number], calls[number]));
+                }
+            }
+        }
     }
+    least
+}
 
-    /// The time of one call of the proved judge alone.
-    fn time(self) -> f64 {
-        let calls = self.calls(proved::judge);
-        (0..SAMPLES).fold(f64::INFINITY, |least, _| least.min(self.sample(proved::judge, calls)))
-    }
+/// The times of both judges.
+fn times(given: &[Given]) -> Vec<Times> {
+    least_times(given, [proved::judge, plain]).into_iter().map(|[proved, plain]| Times { proved, plain }).collect()
+}
+
+/// The times of the proved judge alone.
+fn proved_times(given: &[Given]) -> Vec<f64> {
+    least_times(given, [proved::judge]).into_iter().map(|[proved]| proved).collect()
 }
 
 fn without_rules(table: &[u8]) -> Given<'_> {
@@ -133,59 +149,146 @@ fn helpers() {
         ("chain of 64", marks::chain(64)),
         ("chain of 127", marks::chain(127)),
     ];
-    println!("{:28} {:>6} {:>12} {:>12} {:>8} {:>10}", "helpers", "rows", "proved ns", "without ns", "ratio", "ns a row");
+    let plain = tables.each_ref().map(|(_, table)| marks::plain(table.len() / 16));
     for (name, table) in &tables {
+        assert_eq!(without_rules(table).judged(proved::judge), table.len() as u64 / 16, "{name}");
+    }
+    let with = proved_times(&tables.each_ref().map(|(_, table)| without_rules(table)));
+    let without = proved_times(&plain.each_ref().map(|table| without_rules(table)));
+    println!("{:28} {:>6} {:>12} {:>12} {:>8} {:>10}", "helpers", "rows", "proved ns", "without ns", "ratio", "ns a row");
+    for ((name, table), (with, without)) in tables.iter().zip(with.iter().zip(&without)) {
         let rows = table.len() / 16;
-        assert_eq!(without_rules(table).judged(proved::judge), rows as u64, "{name}");
-        let (with, without) = (without_rules(table).time(), without_rules(&marks::plain(rows)).time());
         println!("{:28} {:>6} {:>12.0} {:>12.0} {:>8.2} {:>10.1}", name, rows, with, without, with / without, with / rows as f64);
     }
 }
 
-/// Tables of 16 modules under rule files. What a file takes is the time with it less that without.
+/// What each family of tables has.
+const CREDITS: &str = "credits";
+const ROUNDS: &str = "loops with references";
+const RINGS: &str = "helper rings";
+const CHAINS: &str = "helper chains";
+
+/// A table that was judged without a rule file.
+pub struct Judged {
+    pub name: &'static str,
+    pub family: &'static str,
+    pub rows: usize,
+    pub times: Times,
+}
+
+/// Measures both judges on tables of several families.
+pub fn measure_tables() -> Vec<Judged> {
+    let bytes = (0..32768u32).map(|i| (i.wrapping_mul(2654435761) >> 13) as u8).collect();
+    let tables = [
+        ("credits, small", CREDITS, credits(1, 1)),
+        ("credits, typical", CREDITS, credits(20, 3)),
+        ("credits, large", CREDITS, credits(60, 7)),
+        ("credits, 2,048 rows", CREDITS, full()),
+        ("rounds, small", ROUNDS, rounds(1, 8)),
+        ("rounds, large", ROUNDS, rounds(40, 16)),
+        ("random bytes", "random bytes", bytes),
+    ];
+    let given = tables.each_ref().map(|(_, _, table)| without_rules(table));
+    for (given, (name, _, _)) in given.iter().zip(&tables) {
+        assert_eq!(given.judged(proved::judge), given.judged(plain), "{name}");
+    }
+    let mut judged = Vec::new();
+    for ((name, family, table), times) in tables.iter().zip(times(&given)) {
+        judged.push(Judged { name, family, rows: table.len() / 16, times });
+    }
+    judged
+}
+
+/// A table of 16 modules that was judged under a rule file.
+pub struct JudgedUnder {
+    pub name: &'static str,
+    pub rows: usize,
+    pub rules: usize,
+    pub times: Times,
+    /// Those of the same table without a rule file.
+    pub without: Times,
+}
+
+/// Measures both judges under several rule files, on a typical table and on one of the most rows.
+pub fn measure_rule_files() -> Vec<JudgedUnder> {
+    [304, 2_048].into_iter().flat_map(measure_under).collect()
+}
+
+fn measure_under(rows: usize) -> Vec<JudgedUnder> {
+    let (table, files) = (policies::table(rows), policies::files());
+    let none = without_rules(&table);
+    assert_eq!((none.judged(proved::judge), none.judged(plain)), (rows as u64, rows as u64));
+    let mut given = vec![none];
+    for (name, rules) in &files {
+        let under = Given { rules, ..none };
+        assert_eq!(under.judged(proved::judge), under.judged(plain), "{name}");
+        given.push(under);
+    }
+    let times = times(&given);
+    let mut judged = Vec::new();
+    for ((name, rules), &with) in files.iter().zip(&times[1..]) {
+        judged.push(JudgedUnder { name, rows, rules: rules.len() / 16, times: with, without: times[0] });
+    }
+    judged
+}
+
+/// How the time of the proved judge grows with a table of one family.
+pub struct Growth {
+    pub family: &'static str,
+    /// Rows, and nanoseconds of one judgement.
+    pub points: Vec<(usize, f64)>,
+}
+
+/// Points of each growth.
+const POINTS: usize = 8;
+
+/// Measures the proved judge on tables of several families, in even steps up to the largest.
+pub fn measure_growth() -> Vec<Growth> {
+    let steps = |largest: usize| (1..=POINTS).map(move |step| largest * step / POINTS);
+    let families: [(_, Vec<Vec<u8>>); 4] = [
+        (CREDITS, steps(65).map(|procedures| credits(procedures, 7)).collect()),
+        (ROUNDS, steps(41).map(|procedures| rounds(procedures, 16)).collect()),
+        (RINGS, steps(57).map(|helpers| marks::ring(helpers, 16)).collect()),
+        (CHAINS, steps(127).map(marks::chain).collect()),
+    ];
+    let given: Vec<_> = families.iter().flat_map(|(_, tables)| tables).map(|table| without_rules(table)).collect();
+    let mut points = Vec::new();
+    for (given, time) in given.iter().zip(proved_times(&given)) {
+        let rows = given.table.len() / 16;
+        assert_eq!(given.judged(proved::judge), rows as u64);
+        points.push((rows, time));
+    }
+    families.iter().zip(points.chunks(POINTS)).map(|((family, _), points)| Growth { family, points: points.to_vec() }).collect()
+}
+
+pub fn speed() {
+    println!("{:28} {:>6} {:>12} {:>12} {:>8} {:>10}", "table", "rows", "proved ns", "plain ns", "ratio", "ns a row");
+    for Judged { name, rows, times, .. } in measure_tables() {
+        let Times { proved, plain } = times;
+        let (ratio, each) = (times.ratio(), proved / rows as f64);
+        println!("{name:28} {rows:>6} {proved:>12.0} {plain:>12.0} {ratio:>8.2} {each:>10.1}");
+    }
+    helpers();
+    rule_files();
+}
+
+/// What a file takes is the time with it less that without.
 fn rule_files() {
     println!(
         "{:28} {:>6} {:>6} {:>12} {:>12} {:>8} {:>12} {:>12} {:>8}",
         "rule file", "rows", "rules", "proved ns", "plain ns", "ratio", "proved file", "plain file", "ratio"
     );
-    for rows in [304, 2_048] {
-        let table = policies::table(rows);
-        let none = without_rules(&table);
-        assert_eq!((none.judged(proved::judge), none.judged(plain)), (rows as u64, rows as u64));
-        let without = none.times();
-        for (name, rules) in policies::files() {
-            let given = Given { rules: &rules, ..none };
-            assert_eq!(given.judged(proved::judge), given.judged(plain), "{name}");
-            let (a, b) = given.times();
-            let (file_a, file_b) = (a - without.0, b - without.1);
-            let (count, ratio, file_ratio) = (rules.len() / 16, a / b, file_a / file_b);
-            println!(
-                "{name:28} {rows:>6} {count:>6} {a:>12.0} {b:>12.0} {ratio:>8.2} {file_a:>12.0} {file_b:>12.0} {file_ratio:>8.2}"
-            );
-        }
+    for JudgedUnder { name, rows, rules, times, without } in measure_rule_files() {
+        let Times { proved, plain } = times;
+        let file = Times { proved: proved - without.proved, plain: plain - without.plain };
+        println!(
+            "{name:28} {rows:>6} {rules:>6} {proved:>12.0} {plain:>12.0} {:>8.2} {:>12.0} {:>12.0} {:>8.2}",
+            times.ratio(),
+            file.proved,
+            file.plain,
+            file.ratio()
+        );
     }
-}
-
-pub fn speed() {
-    let tables = [
-        ("credits, small", credits(1, 1)),
-        ("credits, typical", credits(20, 3)),
-        ("credits, large", credits(60, 7)),
-        ("credits, 2,048 rows", full()),
-        ("rounds, small", rounds(1, 8)),
-        ("rounds, large", rounds(40, 16)),
-        ("random bytes", (0..32768u32).map(|i| (i.wrapping_mul(2654435761) >> 13) as u8).collect()),
-    ];
-    println!("{:28} {:>6} {:>12} {:>12} {:>8} {:>10}", "table", "rows", "proved ns", "plain ns", "ratio", "ns a row");
-    for (name, table) in &tables {
-        let given = without_rules(table);
-        assert_eq!(given.judged(proved::judge), given.judged(plain), "{name}");
-        let rows = table.len() / 16;
-        let (a, b) = given.times();
-        println!("{:28} {:>6} {:>12.0} {:>12.0} {:>8.2} {:>10.1}", name, rows, a, b, a / b, a / rows as f64);
-    }
-    helpers();
-    rule_files();
 }
 
 pub fn compare(seed: u64, count: usize) {

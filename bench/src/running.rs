@@ -1,7 +1,8 @@
 //! The machine against the reference machine: in its answers, on made runs under made rule files, and in speed, on loops and lists of short calls.
 
-use crate::loops::{self, Course};
+use crate::loops::{self, Course, Setting, Work};
 use crate::proved;
+use crate::times::Times;
 use reference::gen::runs::{self, Case};
 use reference::machine::{Machine, Watch};
 use reference::row::limit;
@@ -211,9 +212,16 @@ impl Best {
     }
 }
 
-/// Prints nanoseconds for one instruction, call or line of each course's work on the proved and on the plain machine. What both lists
-/// do, judging too, is taken off.
-pub fn speed() {
+/// A course, and the times of one instruction, call or line of its work. What both lists do, judging too, is taken off.
+pub struct Measured {
+    pub work: Work,
+    pub setting: Setting,
+    course: Course,
+    pub times: Times,
+}
+
+/// Measures both machines on each work in each of its settings.
+pub fn measure() -> Vec<Measured> {
     let mut text = vec![0; limit::TEXT_BYTES];
     let mut courses = Vec::new();
     for work in loops::WORKS {
@@ -231,15 +239,25 @@ pub fn speed() {
             best.improve(course, &mut text);
         }
     }
+    let measured = |(work, setting, course, best): (_, _, Course, Best)| {
+        let each = |[short, long]: [f64; 2]| (long - short) / course.more as f64;
+        let times = Times { proved: each(best.proved), plain: each(best.plain) };
+        Measured { work, setting, course, times }
+    };
+    courses.into_iter().map(measured).collect()
+}
+
+/// Prints nanoseconds for one instruction, call or line of each course's work on the proved and on the plain machine.
+pub fn speed() {
+    let all = measure();
     println!(
         "{:23} {:12} {:>6} {:>8} {:>8} {:>7} {:>10} {:>9} {:>7}",
         "loop", "setting", "rows", "records", "entries", "frames", "proved ns", "plain ns", "ratio"
     );
-    for (work, setting, course, best) in &courses {
-        let each = |[short, long]: [f64; 2]| (long - short) / course.more as f64;
-        let (proved, plain) = (each(best.proved), each(best.plain));
+    for Measured { work, setting, course, times } in &all {
+        let Times { proved, plain } = times;
         let Most { records, entries, frames } = most_of(course);
-        let (work, setting, rows, ratio) = (work.name(), setting.name(), course.table.len() / 16, proved / plain);
+        let (work, setting, rows, ratio) = (work.name(), setting.name(), course.table.len() / 16, times.ratio());
         println!(
             "{work:23} {setting:12} {rows:>6} {records:>8} {entries:>8} {frames:>7} \
              {proved:>10.1} {plain:>9.1} {ratio:>7.2}"

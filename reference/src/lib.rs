@@ -88,13 +88,18 @@ pub fn admit_under(table: &[u8], rules: Option<&[u8]>) -> Result<Program, Refusa
 
 /// The passes before locals and leaks: length, rows, names, operands.
 pub fn type_check(table: &[u8]) -> Result<Program, Refusal> {
+    let mut program = name_check(table)?;
+    program.view_on_top = operands::check_operands(&program)?;
+    Ok(program)
+}
+
+/// The passes before operands: length, rows, names.
+pub fn name_check(table: &[u8]) -> Result<Program, Refusal> {
     shape::check_length(table)?;
     let rows = row::read_rows(table);
     let outline = shape::check_rows(&rows)?;
     names::check_names(&rows, &outline)?;
-    let mut program = Program::decode(&rows, &outline);
-    program.view_on_top = operands::check_operands(&program)?;
-    Ok(program)
+    Ok(Program::decode(&rows, &outline))
 }
 
 /// Runs a call list over a table under a rule file, if there is one, for a text buffer of `text_len` bytes: the text, or

@@ -10,7 +10,7 @@ const JUDGED: &str = "the operands pass accepted this instruction";
 
 /// Identities of frames and records are given out once. A list has at most 256 calls of at most 65,535
 /// instructions, so 32 bits are enough.
-type Identity = u32;
+pub type Identity = u32;
 
 #[derive(Clone, Copy, Debug, PartialEq, Eq)]
 pub enum Value {
@@ -199,9 +199,7 @@ impl<'p> Machine<'p> {
     }
 
     fn row(&self) -> usize {
-        let frame = self.frame();
-        let procedure = self.program.procedure(frame.procedure);
-        procedure.code_row + (frame.next - procedure.code.start)
+        self.frame_row(self.frames.len() - 1)
     }
 
     /// Makes a frame whose parameters are the topmost operands.
@@ -522,6 +520,21 @@ impl Machine<'_> {
         self.memory.rooms.len() - self.memory.free.len()
     }
 
+    /// The rooms that hold a record, with its identity.
+    pub fn live_rooms(&self) -> impl Iterator<Item = (u8, Identity)> + '_ {
+        (0..).zip(&self.memory.rooms).filter_map(|(number, room)| Some((number, room.record?)))
+    }
+
+    /// Identity of the record in a room that holds one.
+    pub fn record_identity(&self, room: u8) -> Identity {
+        self.memory.rooms[usize::from(room)].record.expect("the room holds a record")
+    }
+
+    /// Identity of the record that is this entry.
+    pub fn entry_record(&self, entry: &Entry) -> Identity {
+        self.record_identity(entry.room)
+    }
+
     pub fn frame_count(&self) -> usize {
         self.frames.len()
     }
@@ -542,6 +555,17 @@ impl Machine<'_> {
     /// Number of the frame's procedure.
     pub fn frame_procedure(&self, depth: usize) -> u8 {
         self.frames[depth].procedure
+    }
+
+    pub fn frame_identity(&self, depth: usize) -> Identity {
+        self.frames[depth].identity
+    }
+
+    /// Row of the instruction that comes up in the frame, where it runs or runs again.
+    pub fn frame_row(&self, depth: usize) -> usize {
+        let frame = &self.frames[depth];
+        let procedure = self.program.procedure(frame.procedure);
+        procedure.code_row + (frame.next - procedure.code.start)
     }
 
     pub fn frame_operands(&self, depth: usize) -> &[Value] {

@@ -1,9 +1,12 @@
--- The rules answer each example as the table says, by computation: part by part, since the checker bounds what one theorem may compute.
-use mathlib.Core.Path.{_≡_, refl}
-use mathlib.Core.List.{List, _++_, map, map-append}
+-- The rules answer each example as it states, by computation: part by part, since the checker bounds what one theorem may compute.
+use mathlib.Core.Path.{_≡_, refl, ap, sym, _∙_}
+use mathlib.Core.List.{List, [], _∷_, _++_, map, map-append}
+use Rattle.table.specs.declared.Verdict.{Verdict}
 use Rattle.judging.specs.Judging.{judgeUnder}
 use Rattle.semantics.specs.Run.{runOf}
-use Rattle.examples.specs.Examples.{Example, Answer, judgingRows, judgingValues, judgingWalks, judgingMarks, judgingOverwritten, judgingReadOnly, judgingHanded, judgingHelpers, judgingGiven, judgingRounds, judgingFile, judgingPairs, runningRules, runningCalls, runningKeys, runningLimits, examples, line, given, expected, answered, answers}
+use Rattle.samples.specs.Samples.{Sample, samples, given as stated, answered as judgedBy}
+use Rattle.samples.proofs.Samples.{all-judged}
+use Rattle.examples.specs.Examples.{Example, sample, Answer, judged, runningRules, runningCalls, runningKeys, runningLimits, examples, line, given, expected, answered, answers}
 use Rattle.examples.proofs.Rules.{rules}
 
 -- what the rules answer to an example; that they answer some examples as stated
@@ -12,54 +15,6 @@ told = answered judgeUnder runOf
 
 Hold : List Example → Type 0
 Hold es = map told es ≡ map given es
-
-rows-hold : Hold judgingRows
-unfolding Hold rules judgingRows
-rows-hold = refl
-
-values-hold : Hold judgingValues
-unfolding Hold rules judgingValues
-values-hold = refl
-
-walks-hold : Hold judgingWalks
-unfolding Hold rules judgingWalks
-walks-hold = refl
-
-marks-hold : Hold judgingMarks
-unfolding Hold rules judgingMarks
-marks-hold = refl
-
-overwritten-hold : Hold judgingOverwritten
-unfolding Hold rules judgingOverwritten
-overwritten-hold = refl
-
-read-only-hold : Hold judgingReadOnly
-unfolding Hold rules judgingReadOnly
-read-only-hold = refl
-
-handed-hold : Hold judgingHanded
-unfolding Hold rules judgingHanded
-handed-hold = refl
-
-helpers-hold : Hold judgingHelpers
-unfolding Hold rules judgingHelpers
-helpers-hold = refl
-
-given-hold : Hold judgingGiven
-unfolding Hold rules judgingGiven
-given-hold = refl
-
-rounds-hold : Hold judgingRounds
-unfolding Hold rules judgingRounds
-rounds-hold = refl
-
-file-hold : Hold judgingFile
-unfolding Hold rules judgingFile
-file-hold = refl
-
-pairs-hold : Hold judgingPairs
-unfolding Hold rules judgingPairs
-pairs-hold = refl
 
 under-hold : Hold runningRules
 unfolding Hold rules runningRules line
@@ -77,12 +32,21 @@ limits-hold : Hold runningLimits
 unfolding Hold rules runningLimits line
 limits-hold = refl
 
+-- the samples: what holds of a sample and its verdict holds of the example
+through : (f : Example → Answer) (g : Sample → Verdict) → ((s : Sample) → f (sample s) ≡ judged (g s)) → (ss : List Sample) → map f (map sample ss) ≡ map judged (map g ss)
+through f g e [] = refl
+through f g e (s ∷ ss) = rw (e s, through f g e ss) refl
+
+samples-hold : Hold (map sample samples)
+unfolding Hold
+samples-hold = through told (judgedBy judgeUnder) (λ s. refl) samples ∙ ap (map judged) all-judged ∙ sym (through given stated (λ s. refl) samples)
+
 both : (xs ys : List Example) → Hold xs → Hold ys → Hold (xs ++ ys)
 unfolding Hold
 both xs ys hx hy = rw (map-append told xs ys, map-append given xs ys, hx, hy) refl
 
-parts-hold : Hold (judgingRows ++ judgingValues ++ judgingWalks ++ judgingMarks ++ judgingOverwritten ++ judgingReadOnly ++ judgingHanded ++ judgingHelpers ++ judgingGiven ++ judgingRounds ++ judgingFile ++ judgingPairs ++ runningRules ++ runningCalls ++ runningKeys ++ runningLimits)
-parts-hold = both _ _ (both _ _ (both _ _ (both _ _ (both _ _ (both _ _ (both _ _ (both _ _ (both _ _ (both _ _ (both _ _ (both _ _ (both _ _ (both _ _ (both _ _ rows-hold values-hold) walks-hold) marks-hold) overwritten-hold) read-only-hold) handed-hold) helpers-hold) given-hold) rounds-hold) file-hold) pairs-hold) under-hold) calls-hold) keys-hold) limits-hold
+parts-hold : Hold (map sample samples ++ runningRules ++ runningCalls ++ runningKeys ++ runningLimits)
+parts-hold = both _ _ (both _ _ (both _ _ (both _ _ samples-hold under-hold) calls-hold) keys-hold) limits-hold
 
 pub all-hold : answers judgeUnder runOf ≡ expected
 unfolding Hold examples answers expected

@@ -1,5 +1,2 @@
 pub mod Rules
 pub mod Examples
-pub mod Bytes
-pub mod Speaks
-pub mod Weaker

@@ -1,2 +1,1 @@
-// The examples of document 01 and many more, as one table, with one theorem by computation; and a list in whose history everything happens that demand 3
-// speaks of. No code.
+// The samples, and call lists with what running them prints, as one list, with one theorem by computation. No code.

@@ -47,26 +47,17 @@ fn run_next(
     rules: &mut [u8],
     text: &mut [u8],
 ) -> bool {
-    let n = printing::next_number(file, TABLE + 1);
+    let n = printing::next_part(file, table, TABLE + 1);
     if table.len() < n {
         return false;
     }
-    if !printing::read_whole(file, &mut table[..n]) {
-        return false;
-    }
-    let m = printing::next_number(file, LIST + 1);
+    let m = printing::next_part(file, list, LIST + 1);
     if list.len() < m {
         return false;
     }
-    if !printing::read_whole(file, &mut list[..m]) {
-        return false;
-    }
     let has = printing::next_number(file, 0);
-    let r = printing::next_number(file, RULES + 1);
+    let r = printing::next_part(file, rules, RULES + 1);
     if rules.len() < r {
-        return false;
-    }
-    if !printing::read_whole(file, &mut rules[..r]) {
         return false;
     }
     let size = printing::next_number(file, TEXT + 1);

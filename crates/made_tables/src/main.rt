@@ -32,19 +32,13 @@ fn judge_all(file: i32, table: &mut [u8], rules: &mut [u8]) {
 
 // Judges the next table; false where there is none, or where a part of it is too long or cut off.
 fn judge_next(file: i32, table: &mut [u8], rules: &mut [u8]) -> bool {
-    let n = printing::next_number(file, TABLE + 1);
+    let n = printing::next_part(file, table, TABLE + 1);
     if table.len() < n {
         return false;
     }
-    if !printing::read_whole(file, &mut table[..n]) {
-        return false;
-    }
     let has = printing::next_number(file, 0);
-    let m = printing::next_number(file, RULES + 1);
+    let m = printing::next_part(file, rules, RULES + 1);
     if rules.len() < m {
-        return false;
-    }
-    if !printing::read_whole(file, &mut rules[..m]) {
         return false;
     }
     let verdict = judging::judge_under(&table[..n], &rules[..m], has as u64);

@@ -148,6 +148,19 @@ pub fn next_number(file: i32, absent: usize) -> usize {
     wide(head[0]) + 256 * wide(head[1]) + 65536 * wide(head[2]) + 16777216 * wide(head[3])
 }
 
+// The next part of a file, its length and then its bytes, which are read to the buffer's start: its length. A length above the buffer's says that the part is
+// too long for it and not read; `absent` is given where the file ends before.
+pub fn next_part(file: i32, room: &mut [u8], absent: usize) -> usize {
+    let n = next_number(file, absent);
+    if room.len() < n {
+        return n;
+    }
+    if !read_whole(file, &mut room[..n]) {
+        return absent;
+    }
+    n
+}
+
 fn wide(x: u8) -> usize
     ensures { λ r. ⌜ r < 256 ⌝ }
 {

@@ -5,15 +5,6 @@ use borrow.Author.Needs.{needs}
 use Rattle.made_lists.proofs.run_next.Statement.{statement}
 use Rattle.made_lists.proofs.run_next.Tie as tie
 
-slice-aggregate-read-whole : tie.Need-slice-aggregate-read-whole
-slice-aggregate-read-whole c = sym (length-take-le _ _ (omega arith))
-
-slice-aggregate-read-whole-2 : tie.Need-slice-aggregate-read-whole-2
-slice-aggregate-read-whole-2 c = sym (length-take-le _ _ (omega arith))
-
-slice-aggregate-read-whole-3 : tie.Need-slice-aggregate-read-whole-3
-slice-aggregate-read-whole-3 c = sym (length-take-le _ _ (omega arith))
-
 slice-aggregate-run-list : tie.Need-slice-aggregate-run-list
 slice-aggregate-run-list c = sym (length-take-le _ _ (omega arith))
 
@@ -30,4 +21,4 @@ slice-aggregate-print-run : tie.Need-slice-aggregate-print-run
 slice-aggregate-print-run c = sym (length-take-le _ _ (omega arith))
 
 pub run-next-spec : {M : Type 1} → statement M
-run-next-spec = tie.close (tie.spec (λ c. search needs) (λ c κs. search needs) (λ c. search needs) (λ c. search needs) slice-aggregate-read-whole (λ c κs. search needs) (λ c. search needs) (λ c. search needs) (λ c. search needs) (λ c κs. search needs) (λ c. search needs) (λ c. search needs) (λ c. search needs) slice-aggregate-read-whole-2 (λ c κs. search needs) (λ c. search needs) (λ c. search needs) (λ c. search needs) (λ c κs. search needs) (λ c. search needs) (λ c κs. search needs) (λ c. search needs) (λ c. search needs) (λ c. search needs) (λ c. search needs) slice-aggregate-read-whole-3 (λ c κs. search needs) (λ c. search needs) (λ c. search needs) (λ c. search needs) (λ c. search needs) (λ c. search needs) (λ c κs. search needs) (λ c. search needs) (λ c. search needs) (λ c. search needs) (λ c. search needs) (λ c κs. search needs) (λ c. search needs) slice-aggregate-run-list (λ c. search needs) slice-aggregate-run-list-2 (λ c. search needs) slice-aggregate-run-list-3 (λ c. search needs) slice-aggregate-run-list-4 (λ c κs. search needs) (λ c. search needs) slice-aggregate-print-run (λ c κs. search needs) (λ c. search needs) (λ c. search needs) (λ c. search needs) (λ c. search needs) (λ c. search needs))
+run-next-spec = tie.close (tie.spec (λ c. search needs) (λ c κs. search needs) (λ c. search needs) (λ c. search needs) (λ c. search needs) (λ c κs. search needs) (λ c. search needs) (λ c. search needs) (λ c. search needs) (λ c κs. search needs) (λ c. search needs) (λ c κs. search needs) (λ c. search needs) (λ c. search needs) (λ c. search needs) (λ c. search needs) (λ c. search needs) (λ c κs. search needs) (λ c. search needs) (λ c. search needs) (λ c. search needs) (λ c. search needs) (λ c κs. search needs) (λ c. search needs) slice-aggregate-run-list (λ c. search needs) slice-aggregate-run-list-2 (λ c. search needs) slice-aggregate-run-list-3 (λ c. search needs) slice-aggregate-run-list-4 (λ c κs. search needs) (λ c. search needs) slice-aggregate-print-run (λ c κs. search needs) (λ c. search needs) (λ c. search needs) (λ c. search needs) (λ c. search needs) (λ c. search needs))

@@ -5,12 +5,6 @@ use borrow.Author.Needs.{needs}
 use Rattle.made_tables.proofs.judge_next.Statement.{statement}
 use Rattle.made_tables.proofs.judge_next.Tie as tie
 
-slice-aggregate-read-whole : tie.Need-slice-aggregate-read-whole
-slice-aggregate-read-whole c = sym (length-take-le _ _ (omega arith))
-
-slice-aggregate-read-whole-2 : tie.Need-slice-aggregate-read-whole-2
-slice-aggregate-read-whole-2 c = sym (length-take-le _ _ (omega arith))
-
 slice-aggregate-judge-under : tie.Need-slice-aggregate-judge-under
 slice-aggregate-judge-under c = sym (length-take-le _ _ (omega arith))
 
@@ -18,4 +12,4 @@ slice-aggregate-judge-under-2 : tie.Need-slice-aggregate-judge-under-2
 slice-aggregate-judge-under-2 c = sym (length-take-le _ _ (omega arith))
 
 pub judge-next-spec : {M : Type 1} → statement M
-judge-next-spec = tie.close (tie.spec (λ c. search needs) (λ c κs. search needs) (λ c. search needs) (λ c. search needs) slice-aggregate-read-whole (λ c κs. search needs) (λ c. search needs) (λ c. search needs) (λ c κs. search needs) (λ c. search needs) (λ c κs. search needs) (λ c. search needs) (λ c. search needs) (λ c. search needs) slice-aggregate-read-whole-2 (λ c κs. search needs) (λ c. search needs) (λ c. search needs) (λ c. search needs) (λ c. search needs) slice-aggregate-judge-under (λ c. search needs) slice-aggregate-judge-under-2 (λ c κs. search needs) (λ c κs. search needs) (λ c. search needs) (λ c. search needs) (λ c. search needs))
+judge-next-spec = tie.close (tie.spec (λ c. search needs) (λ c κs. search needs) (λ c. search needs) (λ c. search needs) (λ c κs. search needs) (λ c. search needs) (λ c κs. search needs) (λ c. search needs) (λ c. search needs) (λ c. search needs) (λ c. search needs) slice-aggregate-judge-under (λ c. search needs) slice-aggregate-judge-under-2 (λ c κs. search needs) (λ c κs. search needs) (λ c. search needs) (λ c. search needs) (λ c. search needs))

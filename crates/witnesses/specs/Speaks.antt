@@ -19,7 +19,8 @@ use Rattle.semantics.specs.Run.{historyOf}
 use Rattle.semantics.specs.Words.{guest, guardedField, GuardedReference, Holds, Exists, NumberIn, IsEntry}
 use Rattle.semantics.specs.Stops.{Overflows, Overdraws}
 use Rattle.semantics.specs.Claim.{All, Restored}
-use Rattle.examples.specs.Tables.{table, rowsGuest, callsGuest, rowsLabel, callsLabel, rowsTill, callsTill}
+use Rattle.samples.specs.Tables.{table}
+use Rattle.witnesses.specs.Tables.{rowsGuest, callsGuest, rowsLabel, callsLabel, rowsTill, callsTill}
 
 -- The words of demand 3 that ask about a table, at the table t: a guest's frame or not, a guarded field, a writable reference to one, what a stop restores
 abbrev pub OfGuest : List ℕ → Frame → Bool → Type 0

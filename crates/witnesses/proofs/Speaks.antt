@@ -13,8 +13,8 @@ use Rattle.semantics.specs.History.{base, Event, moment}
 use Rattle.semantics.specs.Run.{historyOf}
 use Rattle.semantics.specs.Words.{operand, Exists}
 use Rattle.semantics.specs.Claim.{none-left, also}
-use Rattle.examples.specs.Speaks.{Speaks, StopsAfterChange, Happens, Makes, BreaksUp, Publishes, Withdraws, Changes, HoldsAboveGuest, Reads, Calculates, tableGuest, listGuest, tableLabel, listLabel, tableTill, listTill}
-use Rattle.examples.proofs.Rules.{rules}
+use Rattle.witnesses.specs.Speaks.{Speaks, StopsAfterChange, Happens, Makes, BreaksUp, Publishes, Withdraws, Changes, HoldsAboveGuest, Reads, Calculates, tableGuest, listGuest, tableLabel, listLabel, tableTill, listTill}
+use Rattle.witnesses.proofs.Rules.{rules}
 
 -- whether a cell holds a record
 isHere : Option Cell → Bool

@@ -7,7 +7,7 @@ use Rattle.laws.specs.Lists.{tabulate}
 use Rattle.table.specs.Verdicts.{numberOf}
 use Rattle.table.specs.Format.{moduleKind, typeKind, fieldKind, procedureKind, localKind, resultKind, instructionKind}
 use Rattle.rows.specs.Rows.{rowsOf}
-use Rattle.examples.specs.Tables.{table, trusted, type, public}
+use Rattle.samples.specs.Tables.{table, trusted, type, public}
 
 -- a row below others, by kind and A: the numbers for bytes 2 to 15
 pub record Given : Type 0 where

@@ -17,9 +17,10 @@ use Rattle.semantics.specs.Claim.{Safe, safe}
 use Rattle.semantics.specs.Permitted.{Permitted}
 use Rattle.semantics.proofs.Handing.{all-nth}
 use Rattle.semantics.proofs.Demand3.{all-head}
-use Rattle.examples.specs.Tables.{table, rowsHandedOut, callsHandedOut, rowsGuests, callsGuests, rulesGuests}
-use Rattle.examples.specs.Weaker.{BreaksWithoutLeaks, BreaksWithoutRules}
-use Rattle.examples.proofs.Rules.{rules}
+use Rattle.samples.specs.Tables.{table, rowsGuests, rulesGuests}
+use Rattle.witnesses.specs.Tables.{rowsHandedOut, callsHandedOut, callsGuests}
+use Rattle.witnesses.specs.Weaker.{BreaksWithoutLeaks, BreaksWithoutRules}
+use Rattle.witnesses.proofs.Rules.{rules}
 
 -- the moment after the Call: the guest's frame, at StLoc, has the reference among its operands
 abbrev holding : Event

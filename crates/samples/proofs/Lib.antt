@@ -1,0 +1,3 @@
+pub mod Rules
+pub mod Samples
+pub mod Bytes
