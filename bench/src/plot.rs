@@ -181,11 +181,13 @@ impl Ratios {
         }
         let (above, below) = upright(1.0);
         picture.line(above, below, INK, 1.5);
-        // The values stand over grid and line.
+        // The values stand over the grid, and beyond the line where they would meet it.
         for (number, bar) in bars.iter().enumerate() {
-            let (x, y) = (self.x(bar.most) + 3.0, first + Self::STEP * number as f64);
-            let value = bar.value();
-            picture.rectangle((x, y), Self::LETTER * value.len() as f64 + 8.0, Self::THICK, "white");
+            let (value, y) = (bar.value(), first + Self::STEP * number as f64);
+            let width = Self::LETTER * value.len() as f64 + 8.0;
+            let (after, line) = (self.x(bar.most) + 3.0, self.x(1.0));
+            let x = if after < line + 3.0 && line < after + width { line + 3.0 } else { after };
+            picture.rectangle((x, y), width, Self::THICK, "white");
             picture.text(x + 5.0, y + 13.0, Anchor::Start, &value);
         }
     }
