@@ -1,4 +1,6 @@
 // What a table declares, read through its index.
+#![tactic(auto)]
+
 ghost use Rattle.std.specs.Prelude.{◌≡◌};
 ghost use Rattle.declarations.specs.Program.{record_of, record_ref, is_record, is_reference, is_writable, row_kind, local_count, parameters_end};
 ghost use Rattle.declarations.specs.code.Limits.{over_limits};

@@ -1,4 +1,6 @@
 // The kinds of the operands present in a procedure, and what each instruction does to them.
+#![tactic(auto)]
+
 ghost use Rattle.std.specs.Prelude.{◌≡◌, ℕ, ◌+◌, ◌/◌, ◌%◌, List, [], ◌∷◌, cond, not, ◌&&◌, eqb, length, get_or};
 ghost use Rattle.table.specs.Rows.{row_at};
 ghost use Rattle.table.specs.Format.{max_operands};
@@ -12,7 +14,7 @@ use table::index::{ProcedureEntry, TypeEntry};
 use table::{Row, format, refusals};
 
 // The number of the operands present, and the number of the first fault or 0. Their kinds lie in an array that is lent.
-#[derive(Drop)]
+#[derive(Clone, Copy)]
 pub struct Stack {
     pub height: u8,
     pub fault: u8,

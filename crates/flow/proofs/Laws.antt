@@ -44,6 +44,7 @@ module _ (width n : ℕ) (row : Row) (x : ℕ) (y : Visit) where
 -- the listed instructions that are there
 below_inv : (n : ℕ) (js : List ℕ) (j : ℕ) → Mem j (below n js) → Mem j js × (j < n)
 unfolding below
+below_inv n [] j m = elim m [ ]
 below_inv n (i ∷ js) j m = go (ltb i n) refl (below_inv n js j) m
   where
     go : (b : Bool) → ltb i n ≡ b → (Mem j (below n js) → Mem j js × (j < n)) → Mem j (cond b (i ∷ below n js) (below n js)) → Mem j (i ∷ js) × (j < n)

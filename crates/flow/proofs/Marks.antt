@@ -46,6 +46,7 @@ pass_inv false m = inr m
 
 within_inv : (xs : List ℕ) {y : ℕ} → Mem y (within xs) → Mem y xs × (y < mark_places)
 unfolding within
+within_inv [] {y = y} m = elim m [ ]
 within_inv (x ∷ xs) m =
     ⊎_elim
     (λ q. (here q.1, rw q.1 (ltb-true x mark_places q.0)))
@@ -83,6 +84,7 @@ fresh_mem (x ∷ xs) ms j h e = go (dec_lt j (length xs)) (λ l. fresh_mem xs (x
 
 fresh_inv : (xs ms : List Bool) {y : ℕ} → Mem y (fresh_places xs) → (j : ℕ) × (j < length xs) × (y ≡ operand_place j) × (get_or (pushed_on xs ms) j false ≡ true)
 unfolding pushed_on fresh_places
+fresh_inv [] ms {y = y} m = elim m [ ]
 fresh_inv (x ∷ xs) ms m =
     ⊎_elim
     (λ q. (length xs, omega arith, q.1, pushed-lowest x xs ms ∙ q.0))

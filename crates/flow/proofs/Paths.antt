@@ -1,4 +1,5 @@
 -- The reached nodes of a place graph are exactly where its paths arrive, and a path of at most as many steps as there are nodes arrives at each.
+use mathlib.Core.List.{[]}
 use Prim.Native.Nat.{ℕ, ◌+◌, ◌*◌, ◌/◌, ◌%◌, ◌<◌, ◌≤◌}
 use mathlib.Core.Path.{◌≡◌, refl, ap, ◌∙◌}
 use mathlib.Core.List.Memᴰ
@@ -30,6 +31,7 @@ node_first w x = rw (mul-zero, zero-add) refl
 
 nodes_at_inv : (w j : ℕ) (xs : List ℕ) {v : ℕ} → Mem v (nodes_at w j xs) → (x : ℕ) × Mem x xs × (v ≡ w * j + x)
 unfolding nodes_at
+nodes_at_inv w j [] {v = v} x' = elim x' [ ]
 nodes_at_inv w j (x ∷ xs) (here e) = (x, here refl, e)
 nodes_at_inv w j (x ∷ xs) (there m) = let r = nodes_at_inv w j xs m in (r.0, there r.1, r.2)
 
@@ -46,6 +48,7 @@ nodes_of_mem w {xs = xs} (there {x = i} g) m = Memᴰ.append_right (nodes_at w i
 
 pub nodes_of_inv : (w : ℕ) (js xs : List ℕ) {v : ℕ} → Mem v (nodes_of w js xs) → (j x : ℕ) × Mem j js × Mem x xs × (v ≡ w * j + x)
 unfolding nodes_of
+nodes_of_inv w [] xs {v = v} m = elim m [ ]
 nodes_of_inv w (j ∷ js) xs m =
     ⊎_elim
     (λ a. let r = nodes_at_inv w j xs a in (j, r.0, here refl, r.1, r.2))

@@ -1,4 +1,6 @@
 // Search over the nodes (instruction, place) of a procedure: how it goes on from the node that is followed.
+#![tactic(auto)]
+
 ghost use Rattle.std.specs.Prelude.{◌≡◌, [], ◌∷◌, ◌*◌, ◌≤◌, ◌<◌, length};
 ghost use Rattle.reach.specs.code.Search.{after, visit_all};
 ghost use Rattle.flow.specs.Steps.{below};
@@ -49,7 +51,7 @@ fn visit_aside(
 }
 
 // Where a search goes on: the queue's end, and the instruction that is followed next, where it goes on.
-#[derive(Drop)]
+#[derive(Clone, Copy)]
 pub struct Going {
     pub tail: usize,
     pub at: usize,

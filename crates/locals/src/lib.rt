@@ -1,4 +1,6 @@
 // The locals pass: refusals 11 and 12.
+#![tactic(auto)]
+
 ghost use Rattle.std.specs.Prelude.{◌≡◌, false, not, ◌&&◌, ℕ, ◌+◌, ◌*◌, ◌≤◌, ◌<◌, ltb, length, take, drop};
 ghost use Rattle.table.specs.Rows.{row_at, row_count};
 ghost use Rattle.declarations.specs.Program.{is_record, local_kind, code_of, code_verdict, parameter_count};
@@ -13,7 +15,7 @@ use table::index::{Index, ProcedureEntry};
 use table::{Row, Verdict, format, refusals};
 
 // A set of locals.
-#[derive(Drop)]
+#[derive(Clone, Copy)]
 pub struct LocalSet {
     pub has: [bool; 16],
 }

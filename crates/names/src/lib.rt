@@ -1,4 +1,6 @@
 // The names pass: refusals 5 and 6.
+#![tactic(auto)]
+
 ghost use Rattle.std.specs.Prelude.{◌≡◌, cond, ◌+◌, ◌%◌, ◌/◌, ◌<◌, eqb, get_or, ◌&&◌};
 ghost use Rattle.table.specs.Format.{procedure_kind};
 ghost use Rattle.table.specs.Flags.{has_type};
@@ -134,7 +136,7 @@ fn bad_start(table: &[u8], row: Row, starts: ProcedureEntry) -> bool
 
 // What stands around a row: the numbers of types and procedures in all, the number of types that begin above, type B / 8, the procedure
 // that the row stands in, and the one that starts at the row.
-#[derive(Drop)]
+#[derive(Clone, Copy)]
 pub struct Scope {
     pub types: usize,
     pub procedures: usize,

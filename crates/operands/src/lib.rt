@@ -1,4 +1,6 @@
 // The operands pass: refusals 7 to 10.
+#![tactic(auto)]
+
 ghost use Rattle.std.specs.Prelude.{◌≡◌, ◌+◌, ◌/◌, ◌<◌, true, false, cond, ◌||◌, eqb, leb};
 ghost use Rattle.table.specs.Format.{op_borrow_fld, op_branch, op_branch_cond};
 ghost use Rattle.table.specs.Rows.{row_count};

@@ -1,4 +1,6 @@
 // Search over a finite graph whose nodes are numbers: the set of visited nodes, and the queue of those that wait to be expanded.
+#![tactic(auto)]
+
 ghost use Rattle.std.specs.Prelude.{◌≡◌, false, length, replicate};
 ghost use Rattle.reach.specs.code.Search.{after, visit_of, is_unvisited, entering};
 

@@ -1,4 +1,6 @@
 // The length pass and the rows pass: refusals 1 to 4, 18 and 19.
+#![tactic(auto)]
+
 ghost use Rattle.std.specs.Prelude.{◌≡◌, ◌&&◌, leb, ◌<◌};
 ghost use Rattle.table.specs.Format.{local_kind, instruction_kind, past_sorts, past_opcodes};
 ghost use Rattle.rows.specs.Rows.{length_of, rows_of, form_of, count_of, below_row, misplaced, too_many, uses_a, uses_b, uses_c, uses_d, dirty, bad_c, late_parameter, bad_op, unused_byte, bad_value, bad_guard, row_fault, use_of, used_with};
@@ -7,7 +9,7 @@ use table::{Row, Verdict, format, refusals};
 
 // What stands above a row: the kind of the row right above, 0 for none; the number of rows of each kind in the same owner; whether the
 // module is trusted; whether some local of the procedure is no parameter.
-#[derive(Drop)]
+#[derive(Clone, Copy)]
 pub struct Above {
     pub kind: u8,
     pub modules: u16,

@@ -7,7 +7,7 @@ use table::index::{ProcedureEntry, TypeEntry};
 use table::{Row, format};
 
 // What an instruction takes and pushes.
-#[derive(Drop)]
+#[derive(Clone, Copy)]
 pub struct Counts {
     pub takes: u16,
     pub gives: u16,

@@ -8,7 +8,7 @@ ghost use Rattle.table.specs.Index.{indexed_rows, run_end, type_at, procedure_at
 use crate::format;
 
 // A type: its row, the number of its module, and the row after its last field.
-#[derive(Drop)]
+#[derive(Clone, Copy)]
 pub struct TypeEntry {
     pub row: u16,
     pub owner: u16,
@@ -16,7 +16,7 @@ pub struct TypeEntry {
 }
 
 // A procedure: its row, the number of its module, the rows where its results and its instructions start, and the row after the last.
-#[derive(Drop)]
+#[derive(Clone, Copy)]
 pub struct ProcedureEntry {
     pub row: u16,
     pub owner: u16,
@@ -26,7 +26,7 @@ pub struct ProcedureEntry {
 }
 
 // How many modules, types and procedures there are, and an entry for each number below its limit.
-#[derive(Drop)]
+#[derive(Clone, Copy)]
 pub struct Index {
     pub modules: usize,
     pub types: usize,

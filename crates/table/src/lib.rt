@@ -1,4 +1,6 @@
 // The table of rows: its bytes as rows, what a judgement answers, an index of modules, types and procedures, and a procedure's rows as a part of the table.
+#![tactic(auto)]
+
 ghost use Rattle.std.specs.Prelude.{◌≡◌, ◌+◌, ◌*◌, ◌≤◌, ◌<◌, length};
 ghost use Rattle.laws.specs.Numbers.{le};
 ghost use Rattle.table.specs.Rows.{row_at, kind_at};
@@ -10,7 +12,7 @@ pub mod procedures;
 pub mod refusals;
 
 // One row: kind, A, B, C and D.
-#[derive(Drop)]
+#[derive(Clone, Copy)]
 pub struct Row {
     pub kind: u8,
     pub a: u8,
@@ -31,7 +33,7 @@ impl Row {
 }
 
 // What judging a table, or a pass over it, answers.
-#[derive(Drop)]
+#[derive(Clone, Copy)]
 pub enum Verdict {
     // Accepted, with the number of rows.
     Accepted(usize),

@@ -1,0 +1,24 @@
+use Rattle.declarations.proofs.Laws.{parameter_yes, parameter_no}
+use Rattle.declarations.specs.Program.{parameters_end, is_parameter}
+use Rattle.laws.proofs.Lists.{find-next, find-here, find_past}
+use Rattle.laws.specs.Lists.{find}
+use mathlib.Core.Bool.{not}
+use mathlib.Core.Path.{◌≡◌, refl, sym, ◌∙◌}
+use Prim.Native.Nat.{ℕ, ◌-◌}
+use borrow.Author.Rules.{rules}
+use native.Mathlib.Omega.{arith}
+use Rattle.declarations.proofs.parameters_end.Goals as goal
+
+pub loop-i-init : goal.loop-i-init
+loop-i-init c = refl
+
+pub returns-then-row_at-ne1 : goal.returns-then-row_at-ne1
+unfolding parameters_end
+returns-then-row_at-ne1 c = sym (c.loop-i.invariant ∙ find-here _ _ _ (omega arith) (parameter_no _ _ _ c.row_at.ensures c.if-row_at-ne1.true))
+
+pub loop-i-preserved : goal.loop-i-preserved
+loop-i-preserved c = c.loop-i.invariant ∙ find-next _ _ _ (omega arith) (parameter_yes _ _ _ c.row_at.ensures c.if-row_at-ne1.false)
+
+pub returns : goal.returns
+unfolding parameters_end
+returns c = sym (c.loop-i.invariant ∙ find_past _ _ _ c.loop-i-test.false)

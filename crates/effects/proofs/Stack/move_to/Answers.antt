@@ -1,0 +1,13 @@
+use mathlib.Core.Path.{ap₂, ◌∙◌}
+use borrow.Author.Rules.{rules}
+use Rattle.effects.specs.Kinds.{taken, taken_all, pushed_all}
+use Rattle.effects.specs.Effects.{applied}
+use Rattle.effects.proofs.Stack.move_to.Goals as goal
+
+pub take-requires-2 : goal.take-requires-2
+unfolding applied taken_all pushed_all
+take-requires-2 c = search rules
+
+pub returns : goal.returns
+unfolding applied taken_all pushed_all
+returns c = c.take-2.ensures ∙ ap₂ taken c.record_of.ensures c.take.ensures

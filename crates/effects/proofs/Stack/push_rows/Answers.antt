@@ -1,0 +1,21 @@
+use Prim.Native.Nat.{◌-◌}
+use mathlib.Core.Path.{◌≡◌, refl, sym, ◌∙◌}
+use native.Mathlib.Omega.{arith}
+use borrow.Author.Rules.{rules}
+use Rattle.declarations.specs.Program.{kinds_of}
+use Rattle.effects.specs.Kinds.{view, pushed_all}
+use Rattle.effects.proofs.Laws.{kinds-none, kinds-first}
+use Rattle.effects.proofs.Stack.push_rows.Goals as goal
+
+pub loop-i-init : goal.loop-i-init
+loop-i-init c = refl
+
+pub loop-i-preserved : goal.loop-i-preserved
+unfolding pushed_all
+loop-i-preserved c =
+    c.loop-i.invariant
+    ∙ rw (kinds-first _ _ _ c.loop-i-test.true, c.push-stack.ensures, c.row_kind.ensures, c.row_at.ensures)
+
+pub returns : goal.returns
+unfolding pushed_all
+returns c = sym (c.loop-i.invariant ∙ rw (kinds-none _ _ _ c.loop-i-test.false))

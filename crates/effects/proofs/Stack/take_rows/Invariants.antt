@@ -1,0 +1,16 @@
+-- The invariant: i lies between the smaller bound and `to`, and the kinds of the rows from i to before `to` are taken.
+use Prim.Native.Nat.{◌≤◌, min}
+use mathlib.Core.Path.{◌≡◌, ap, ap₂, ◌∙◌}
+use native.Mathlib.Nat.{le_refl}
+use native.Mathlib.Omega.{arith}
+use borrow.Author.Rules.{rules}
+use Rattle.declarations.specs.Program.{row_kind, kinds_of}
+use Rattle.effects.specs.Kinds.{view, taken, taken_all}
+use Rattle.effects.proofs.Laws.{kinds-none, kinds-before, kinds-whole}
+use Rattle.effects.proofs.Stack.take_rows.Given as goal
+
+abbrev pub invariant-loop-i : goal.invariant-loop-i
+invariant-loop-i l = (l.i ≤ l.to) × (min l.from l.to ≤ l.i) × (view l.kinds l.stack ≡ taken_all (kinds_of l.table l.i l.to) (view l.kinds l.initial.stack))
+
+abbrev pub decreases-loop-i : goal.decreases-loop-i
+decreases-loop-i l = l.i

@@ -1,0 +1,12 @@
+use Rattle.locals.specs.code.Sets.{inserted}
+use Rattle.locals.proofs.Sets.{insert_past}
+use mathlib.Core.Path.{refl}
+use borrow.Author.Rules.{rules}
+use Rattle.locals.proofs.LocalSet.insert.Goals as goal
+
+pub returns-then-l-lt16 : goal.returns-then-l-lt16
+unfolding inserted
+returns-then-l-lt16 c = refl
+
+pub returns-else-l-lt16 : goal.returns-else-l-lt16
+returns-else-l-lt16 c = insert_past c.args.self (search rules) c.args.l c.if-l-lt16.false

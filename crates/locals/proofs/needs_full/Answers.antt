@@ -1,0 +1,19 @@
+use Rattle.locals.specs.Locals.{needs_full}
+use borrow.Author.Tests.{ne_eqb}
+use Rattle.locals.proofs.needs_full.Goals as goal
+
+pub returns-in-2 : goal.returns-in-2
+unfolding needs_full
+returns-in-2 c = rw c.in-2.is
+
+pub returns-in-3 : goal.returns-in-3
+unfolding needs_full
+returns-in-3 c = rw c.in-3.is
+
+pub returns-in-5 : goal.returns-in-5
+unfolding needs_full
+returns-in-5 c = rw c.in-5.is
+
+pub returns-in_default : goal.returns-in_default
+unfolding needs_full
+returns-in_default c = rw (ne_eqb _ _ c.in_default.in_default-own.rest.0.0.1, ne_eqb _ _ c.in_default.in_default-own.rest.0.1, ne_eqb _ _ c.in_default.in_default-own.rest.1)

@@ -1,0 +1,16 @@
+-- The invariant: the set has those of the locals below l that belong to it.
+use Rattle.declarations.specs.Program.{is_record, local_kind}
+use Rattle.locals.specs.code.Sets.{those}
+use Rattle.locals.proofs.Sets.{those-none, those_more}
+use mathlib.Core.Logic.{⊎_elim, inl, inr}
+use Prim.Native.Nat.{ℕ, ◌≤◌, ◌-◌}
+use mathlib.Core.Path.{◌≡◌, ap, ◌∙◌}
+use borrow.Author.Rules.{rules}
+use native.Mathlib.Omega.{arith}
+use Rattle.locals.proofs.record_locals.Given as goal
+
+abbrev pub invariant-loop-l : goal.invariant-loop-l
+invariant-loop-l v = (v.l ≤ v.count) × (v.set ≡ those (λ (l : ℕ). is_record (local_kind v.table v.p l)) v.l)
+
+abbrev pub decreases-loop-l : goal.decreases-loop-l
+decreases-loop-l l = l.count - l.l

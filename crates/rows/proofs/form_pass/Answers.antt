@@ -1,0 +1,14 @@
+use Rattle.rows.specs.Rows.{form_of, rows_of}
+use Rattle.table.specs.Verdicts.{and_then}
+use Rattle.table.specs.declared.Verdict.{Verdict}
+use mathlib.Core.Path.{sym, ap, ◌∙◌}
+use borrow.Author.Rules.{rules}
+use Rattle.rows.proofs.form_pass.Goals as goal
+
+pub returns-in-Accepted : goal.returns-in-Accepted
+unfolding form_of
+returns-in-Accepted c = c.rows_pass.ensures ∙ ap (λ (v : Verdict). and_then v (rows_of c.args.table.now)) (c.in-Accepted.ensures)
+
+pub returns-in-Refused : goal.returns-in-Refused
+unfolding form_of
+returns-in-Refused c = ap (λ (v : Verdict). and_then v (rows_of c.args.table.now)) (c.in-Refused.ensures)

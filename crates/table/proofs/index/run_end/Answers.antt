@@ -1,0 +1,23 @@
+use Prim.Native.Nat.{◌-◌}
+use mathlib.Core.Path.{◌≡◌, refl, sym, ◌∙◌}
+use native.Mathlib.Omega.{arith}
+use borrow.Author.Rules.{rules}
+use Rattle.table.specs.Index.{run_end}
+use Rattle.table.proofs.Laws.{is-kind, not-kind, run-next, run_here, run_past}
+use Rattle.table.proofs.index.run_end.Goals as goal
+
+pub loop-i-init : goal.loop-i-init
+loop-i-init c = refl
+
+pub returns-then-kind_at-kind : goal.returns-then-kind_at-kind
+returns-then-kind_at-kind c =
+    let no = not-kind _ _ _ c.kind_at.ensures c.if-kind_at-kind.true in
+    sym (c.loop-i.invariant ∙ run_here _ _ _ _ (omega arith) no)
+
+pub loop-i-preserved : goal.loop-i-preserved
+loop-i-preserved c =
+    let yes = is-kind _ _ _ c.kind_at.ensures c.if-kind_at-kind.false in
+    c.loop-i.invariant ∙ run-next _ _ _ _ (omega arith) yes
+
+pub returns : goal.returns
+returns c = sym (c.loop-i.invariant ∙ run_past _ _ _ _ c.loop-i-test.false)

@@ -1,0 +1,14 @@
+-- The invariant: the run from the start on ends where the run from row i on ends.
+use Prim.Native.Nat.{◌-◌}
+use mathlib.Core.Path.{◌≡◌, refl, sym, ◌∙◌}
+use native.Mathlib.Omega.{arith}
+use borrow.Author.Rules.{rules}
+use Rattle.table.specs.Index.{run_end}
+use Rattle.table.proofs.Laws.{is-kind, not-kind, run-next, run_here, run_past}
+use Rattle.table.proofs.index.run_end.Given as goal
+
+abbrev pub invariant-loop-i : goal.invariant-loop-i
+invariant-loop-i l = run_end l.table l.n l.kind l.start ≡ run_end l.table l.n l.kind l.i
+
+abbrev pub decreases-loop-i : goal.decreases-loop-i
+decreases-loop-i l = l.n - l.i

@@ -1,0 +1,6 @@
+use Rattle.laws.proofs.Numbers.{le_8}
+use borrow.Author.Rules.{rules}
+use Rattle.table.proofs.le64_at.Goals as goal
+
+pub returns : goal.returns
+returns c = rw le_8 (cc)

@@ -1,0 +1,14 @@
+-- The invariant: the end from the start on is the end from row i on.
+use Prim.Native.Nat.{◌-◌}
+use mathlib.Core.Path.{◌≡◌, refl, sym, ◌∙◌}
+use native.Mathlib.Omega.{arith}
+use borrow.Author.Rules.{rules}
+use Rattle.table.specs.Procedures.{procedure_end}
+use Rattle.table.proofs.Laws.{is-kind, not-kind, ends_module, ends-procedure, ends-not, end-next, end-here, end_past}
+use Rattle.table.proofs.procedures.procedure_end.Given as goal
+
+abbrev pub invariant-loop-i : goal.invariant-loop-i
+invariant-loop-i l = procedure_end l.table l.start ≡ procedure_end l.table l.i
+
+abbrev pub decreases-loop-i : goal.decreases-loop-i
+decreases-loop-i l = l.n - l.i
