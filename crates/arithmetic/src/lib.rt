@@ -1,9 +1,11 @@
 // Op: what an operation gives for two numbers.
+#![tactic(auto)]
+
 ghost use Rattle.std.specs.Prelude.{◌≡◌};
 ghost use Rattle.arithmetic.specs.Arithmetic.{calculation};
 
 // What an operation gives: a number; none, as the sum would have more than 64 bits, or as the difference would lie below 0; or there is no such operation.
-#[derive(Drop)]
+#[derive(Clone, Copy)]
 pub enum Calculated {
     Value(u64),
     TooLarge,

@@ -1,4 +1,6 @@
 // What the search looks up of each row, in arrays by row number.
+#![tactic(auto)]
+
 ghost use Rattle.std.specs.Prelude.{◌≡◌, true, false, cond, ℕ, ◌+◌, ◌-◌, ◌≤◌, ◌<◌, eqb, length, get_or, set};
 ghost use Rattle.table.specs.Format.{procedure_kind};
 ghost use Rattle.table.specs.Rows.{row_count};
@@ -10,7 +12,7 @@ use table::{Row, format};
 
 // Of a procedure's own row: its parameters, its results, the row of its first instruction, and its number. Of an instruction's row: what it takes and pushes, the row
 // of its procedure's first instruction, the row of the procedure that it sends marks to, and the procedure that it calls, each of these two plus one, and 0 for none.
-#[derive(Drop)]
+#[derive(Clone, Copy)]
 pub struct RowEntry {
     pub takes: u16,
     pub gives: u16,

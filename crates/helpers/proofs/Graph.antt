@@ -39,6 +39,7 @@ none_below m v h = absurd (false≢true h)
 
 nodes_inv : (at : Layout) (vs : List ℕ) {u : ℕ} → Mem u (mark_nodes_of at vs) → (v : ℕ) × Mem v vs × (u ≡ mark_node at v)
 unfolding mark_nodes_of
+nodes_inv at [] {u = u} x' = elim x' [ ]
 nodes_inv at (v ∷ vs) (here e) = (v, here refl, e)
 nodes_inv at (v ∷ vs) (there m) = let r = nodes_inv at vs m in (r.0, there r.1, r.2)
 

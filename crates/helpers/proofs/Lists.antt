@@ -35,15 +35,16 @@ up_to_mem {A} {x} f (suc n) i h m = go (ℕ_discrete i n) (λ b. up_to_mem f n i
 pub up_to_inv : {A : Type 0} {x : A} (f : ℕ → List A) (n : ℕ) → Mem x (up_to f n) → (i : ℕ) × (i < n) × Mem x (f i)
 unfolding up_to
 up_to_inv f zero m = absurd (Memᴰ.not-nil m)
-up_to_inv f (suc n) m =
+up_to_inv {A = A} {x = x} f (suc n) m =
     ⊎_elim
     (λ a. (n, omega arith, a))
-    (λ b. let r = up_to_inv f n b in (r.0, omega arith, r.2))
+    (λ b. let r : (i : ℕ) × (i < n) × Mem x (f i) = up_to_inv {x = x} f n b in (r.0, omega arith, r.2))
     (Memᴰ.append_cases (f n) m)
 
 -- rows of instructions
 pub rows_inv : (b : ℕ) (js : List ℕ) {v : ℕ} → Mem v (rows_from b js) → (j : ℕ) × Mem j js × (v ≡ b + j)
 unfolding rows_from
+rows_inv b [] {v = v} x' = elim x' [ ]
 rows_inv b (j ∷ js) (here e) = (j, here refl, e)
 rows_inv b (j ∷ js) (there m) = let r = rows_inv b js m in (r.0, there r.1, r.2)
 
@@ -55,6 +56,7 @@ rows_mem b (there m) = there (rows_mem b m)
 -- places of a row
 pub lower_mem : {y : ℕ} (xs : List ℕ) → Mem (suc y) xs → Mem y (lower xs)
 unfolding lower
+lower_mem {y = y} [] x' = elim x' [ ]
 lower_mem (zero ∷ xs) (here e) = absurd (omega arith)
 lower_mem (zero ∷ xs) (there m) = lower_mem xs m
 lower_mem {y} (suc x ∷ xs) (here e) = let q : y ≡ x = omega arith in here q
@@ -62,6 +64,7 @@ lower_mem (suc x ∷ xs) (there m) = there (lower_mem xs m)
 
 pub lower_inv : {y : ℕ} (xs : List ℕ) → Mem y (lower xs) → Mem (suc y) xs
 unfolding lower
+lower_inv {y = y} [] m = elim m [ ]
 lower_inv (zero ∷ xs) m = there (lower_inv xs m)
 lower_inv (suc x ∷ xs) (here e) = here (ap suc e)
 lower_inv (suc x ∷ xs) (there m) = there (lower_inv xs m)
@@ -78,6 +81,7 @@ pass_inv false m = inr m
 -- places that there are
 pub within_inv : (xs : List ℕ) {y : ℕ} → Mem y (within xs) → Mem y xs × (y < mark_places)
 unfolding within
+within_inv [] {y = y} m = elim m [ ]
 within_inv (x ∷ xs) m =
     ⊎_elim
     (λ q. (here q.1, rw q.1 (ltb-true x mark_places q.0)))
@@ -100,6 +104,7 @@ fresh_mem (x ∷ xs) (suc r) h e =
 
 pub fresh_inv : (xs : List Bool) {y : ℕ} → Mem y (fresh_places xs) → (r : ℕ) × (r < length xs) × (get_or xs r false ≡ true) × (y ≡ operand_place (length xs - 1 - r))
 unfolding fresh_places
+fresh_inv [] {y = y} m = elim m [ ]
 fresh_inv (x ∷ xs) m =
     ⊎_elim
     (λ q. (0, omega arith, q.0, omega (arith, q.1)))

@@ -1,4 +1,6 @@
 // The whole judge.
+#![tactic(auto)]
+
 ghost use Rattle.std.specs.Prelude.{◌≡◌};
 ghost use Rattle.judging.specs.Judging.{judge_of, judge_under};
 

@@ -1,4 +1,6 @@
 // The leaks pass: refusals 13 and 14.
+#![tactic(auto)]
+
 ghost use Rattle.std.specs.Prelude.{◌≡◌, cond, not, ◌&&◌, ◌≤◌, eqb};
 ghost use Rattle.table.specs.Rows.{row_count};
 ghost use Rattle.table.specs.Index.{index_of};

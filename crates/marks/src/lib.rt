@@ -1,4 +1,6 @@
 // The search for marks over a whole table: each node is expanded once.
+#![tactic(auto)]
+
 ghost use Rattle.std.specs.Prelude.{◌≡◌, false, [], ◌∷◌, ℕ, ◌+◌, ◌-◌, ◌*◌, ◌≤◌, ◌<◌, length, get_or, replicate};
 ghost use Rattle.reach.specs.Reach.{Mem, Inside, iter, mark};
 ghost use Rattle.reach.specs.code.Search.{after, visit_all};

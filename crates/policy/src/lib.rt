@@ -1,4 +1,6 @@
 // The rule file, rules.bin: which module may call which. Refusals 20 to 22.
+#![tactic(auto)]
+
 ghost use Rattle.std.specs.Prelude.{◌≡◌, ◌<◌, ◌≤◌, length, false};
 ghost use Rattle.table.specs.declared.Verdict.TheVariants.{Accepted};
 ghost use Rattle.table.specs.Rows.{row_count};

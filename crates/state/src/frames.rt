@@ -10,7 +10,7 @@ use crate::Operand;
 // Of the running frame: its serial number, its procedure, the instruction that it is at, how many frames are below it, how many operands and how many
 // locals it has. How many frames and how many records there have been. Then 0, or why the call ended; how many entries the store has, a number of rooms past
 // which none is in use, and one below which all are. The order of the fields is one in which the compiler keeps them in registers.
-#[derive(Drop)]
+#[derive(Clone, Copy)]
 pub struct State {
     pub serial: u32,
     pub frames: u32,

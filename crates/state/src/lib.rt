@@ -1,5 +1,7 @@
 // The machine's state: numbers by value, and cells in a lent array of numbers. A cell is two numbers, a tag and a word (specs/code/Coding); which cell holds
 // what is said in specs/code/Layout.
+#![tactic(auto)]
+
 ghost use Rattle.std.specs.Prelude.{◌≡◌, get_or, set};
 ghost use Rattle.state.specs.code.Coding.{packed, Small, value_of, is_number, is_record, number_of, first_of, second_of, third_of};
 ghost use Rattle.state.specs.code.Cells.{cells_of, has_tag, word_in, copied, moved, emptied};
@@ -13,7 +15,7 @@ pub mod stops;
 
 // A reference to a local: its frame's serial number and depth, the local and its kind; to a number field: its record's serial number, room and
 // type, and the field; to a record: its serial number, room and type.
-#[derive(Drop)]
+#[derive(Clone, Copy)]
 pub enum Reference {
     Local(u32, u8, u8, u16),
     Field(u32, u8, u8, u8),
@@ -21,7 +23,7 @@ pub enum Reference {
 }
 
 // What a cell holds: nothing, a number, a record (serial number, room and type), or a reference.
-#[derive(Drop)]
+#[derive(Clone, Copy)]
 pub enum Operand {
     Empty,
     Number(u64),

@@ -1,4 +1,6 @@
 // How many operands each instruction takes and pushes.
+#![tactic(auto)]
+
 ghost use Rattle.std.specs.Prelude.{◌≡◌, ◌+◌, ◌-◌, ◌<◌, length};
 ghost use Rattle.declarations.specs.Program.{number, parameters_end};
 ghost use Rattle.effects.specs.Effects.{effect_of};

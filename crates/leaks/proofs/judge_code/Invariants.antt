@@ -1,0 +1,20 @@
+-- The invariant: no instruction before instruction i is faulty.
+use Prim.Native.Nat.{ℕ, ◌+◌, ◌-◌, ◌/◌, ◌≤◌}
+use mathlib.Core.Path.{◌≡◌, sym, ◌∙◌}
+use mathlib.Core.Logic.{⊎_elim}
+use native.Mathlib.Omega.{arith}
+use borrow.Author.Rules.{rules}
+use lib.ListN.{length, length-map, get_or-eq_default}
+use Rattle.laws.proofs.First.{from, fine, faulty_with, done, whole}
+use Rattle.table.specs.declared.Verdict.TheVariants.{Accepted, Refused}
+use Rattle.declarations.specs.Program.{procedure_in, code_verdict}
+use Rattle.leaks.specs.Leaks.{leak_from}
+use Rattle.leaks.specs.code.Read.{marked_in}
+use Rattle.leaks.proofs.Laws.{fault_is}
+use Rattle.leaks.proofs.judge_code.Given as goal
+
+abbrev pub invariant-loop-i : goal.invariant-loop-i
+invariant-loop-i l = (l.i ≤ l.n) × (code_verdict (leak_from l.table l.index l.own (marked_in l.nodes l.own)) l.own.code l.n ≡ from Accepted (λ (number j : ℕ). Refused number (l.own.code + j)) (leak_from l.table l.index l.own (marked_in l.nodes l.own)) l.n l.i)
+
+abbrev pub decreases-loop-i : goal.decreases-loop-i
+decreases-loop-i l = l.n - l.i

@@ -1,0 +1,17 @@
+use mathlib.Core.Path.{sym, ap, ◌∙◌}
+use borrow.Author.Rules.{rules}
+use borrow.Author.Tests.{not-true}
+use Rattle.table.specs.declared.index.Index.{Index}
+use Rattle.table.specs.Rows.{row_count}
+use Rattle.entries.specs.code.Entries.{makes_some}
+use Rattle.marks.proofs.TieFound.{none_found}
+use Rattle.leaks.proofs.Read.{none_leaks}
+use Rattle.leaks.proofs.leaks_with.Goals as goal
+
+-- where no instruction makes a mark none is found, and none leaks
+pub returns-then-not-makes_some : goal.returns-then-not-makes_some
+returns-then-not-makes_some c =
+    let t = c.args.table.now in
+    let f = c.requires.0 in
+    let quiet = ap (λ (ix : Index). makes_some t ix (row_count t)) (sym c.requires.1) ∙ sym c.makes_some.ensures ∙ c.if-not-makes_some.true in
+    sym (none_leaks t f (none_found t f quiet))

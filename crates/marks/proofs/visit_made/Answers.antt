@@ -1,0 +1,67 @@
+use Prim.Native.Nat.{◌≤◌, ◌-◌}
+use mathlib.Core.Path.{◌≡◌, refl, sym, ◌∙◌}
+use native.Mathlib.Omega.{arith}
+use borrow.Author.Rules.{rules}
+use lib.ListN.{length}
+use Rattle.reach.specs.code.Search.{after, visit_all}
+use Rattle.table.specs.Rows.{row_count}
+use Rattle.helpers.specs.Rounds.{up_to}
+use Rattle.entries.proofs.Laws.{makes_other}
+use Rattle.marks.specs.code.Search.{made_at}
+use Rattle.marks.proofs.Laws.{up_next, up_end, made_some, made_none, made_missed}
+use Rattle.marks.proofs.visit_made.Goals as goal
+
+pub loop-r-init : goal.loop-r-init
+loop-r-init c = (refl, omega arith, refl, refl)
+
+pub overflow_cast-base : goal.overflow_cast-base
+overflow_cast-base c = omega (arith, c.shared_slice_known-then-makes_mark-1.given (c.loop-r.r - 1))
+
+pub visit_next-tail-requires : goal.visit_next-tail-requires
+visit_next-tail-requires c = (omega arith, omega (arith, c.shared_slice_known-then-makes_mark-1.given (c.loop-r.r - 1)), omega arith, omega arith)
+
+pub loop-r-preserved-then-makes_mark : goal.loop-r-preserved-then-makes_mark
+loop-r-preserved-then-makes_mark c =
+    let l = c.loop-r in
+    let v = c.visit_next-tail in (
+      up_next _ l.r _ _ l.invariant.0 (omega arith) (made_some _ _ _ _ _ _ c.if-arrives-r.true (sym c.makes_mark.ensures ∙ c.if-makes_mark.true) c.row_at-row.ensures v.ensures),
+      omega arith,
+      v.auto.visited ∙ l.invariant.2,
+      v.auto.queue ∙ l.invariant.3,
+    )
+
+pub loop-r-preserved-else-makes_mark : goal.loop-r-preserved-else-makes_mark
+loop-r-preserved-else-makes_mark c =
+    let l = c.loop-r in (
+      up_next _ l.r _ _ l.invariant.0 (omega arith) (made_none _ _ _ _ _ _ c.if-arrives-r.true (sym c.makes_mark.ensures ∙ c.if-makes_mark.false)),
+      omega arith,
+      l.invariant.2,
+      l.invariant.3,
+    )
+
+pub loop-r-preserved-else-row-eq-BORROW_FLD : goal.loop-r-preserved-else-row-eq-BORROW_FLD
+loop-r-preserved-else-row-eq-BORROW_FLD c =
+    let l = c.loop-r in (
+      up_next _ l.r _ _ l.invariant.0 (omega arith) (made_none _ _ _ _ _ _ c.if-arrives-r.true (sym (makes_other _ c.args.index _ c.row_at-row.ensures c.if-row-eq-BORROW_FLD.false))),
+      omega arith,
+      l.invariant.2,
+      l.invariant.3,
+    )
+
+pub loop-r-preserved : goal.loop-r-preserved
+loop-r-preserved c =
+    let l = c.loop-r in (
+      up_next _ l.r _ _ l.invariant.0 (omega arith) (made_missed _ _ _ _ _ _ c.if-arrives-r.false),
+      omega arith,
+      l.invariant.2,
+      l.invariant.3,
+    )
+
+pub shape_of-visited : goal.shape_of-visited
+shape_of-visited c = c.loop-r.invariant.2
+
+pub shape_of-queue : goal.shape_of-queue
+shape_of-queue c = c.loop-r.invariant.3
+
+pub returns : goal.returns
+returns c = sym (up_end _ c.loop-r.r _ _ c.loop-r.invariant.0 (omega arith))

@@ -1,0 +1,15 @@
+-- The invariant: the pairs from the first to before k are painted.
+use Prim.Native.Nat.{◌≤◌, ◌-◌}
+use mathlib.Core.Path.{◌≡◌, ap, ◌∙◌}
+use native.Mathlib.Omega.{arith}
+use borrow.Author.Rules.{rules}
+use lib.ListN.{length}
+use Rattle.policy.specs.code.Grid.{painted_from}
+use Rattle.policy.proofs.Laws.{painted-length, range_none, range_next, range_past}
+use Rattle.policy.proofs.paint.Given as goal
+
+abbrev pub invariant-loop-k : goal.invariant-loop-k
+invariant-loop-k l = (l.from ≤ l.k) × (l.k - l.from ≤ l.to - l.from) × (length l.grid ≡ length l.initial.grid) × (l.grid ≡ painted_from l.from l.k l.allow l.initial.grid)
+
+abbrev pub decreases-loop-k : goal.decreases-loop-k
+decreases-loop-k l = l.to - l.k

@@ -1,0 +1,7 @@
+use mathlib.Core.Path.{sym}
+use borrow.Author.Rules.{rules}
+use Rattle.state.proofs.Cells.{first_in}
+use Rattle.state.proofs.first_at.Goals as goal
+
+pub returns : goal.returns
+returns c = rw c.word_at.ensures (sym (first_in _ _))

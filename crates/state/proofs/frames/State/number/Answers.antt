@@ -1,0 +1,9 @@
+use borrow.Author.Tests.{lt-ltb, le-ltb}
+use borrow.Author.Rules.{rules}
+use Rattle.state.proofs.frames.State.number.Goals as goal
+
+pub returns-then-k-self : goal.returns-then-k-self
+returns-then-k-self c = rw (lt-ltb _ _ c.if-k-self.true, ← c.top_cell.ensures) c.number_at.ensures
+
+pub returns : goal.returns
+returns c = rw (le-ltb _ _ c.if-k-self.false)

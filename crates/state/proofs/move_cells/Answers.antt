@@ -1,0 +1,18 @@
+use Prim.Native.Nat.{◌-◌, ◌≤◌}
+use mathlib.Core.Path.{◌≡◌, refl}
+use native.Mathlib.Omega.{arith}
+use borrow.Author.Rules.{rules}
+use lib.ListN.{length}
+use Rattle.state.specs.code.Cells.{cells_of, moved}
+use Rattle.state.proofs.Cells.{moved_more}
+use Rattle.state.proofs.move_cells.Goals as goal
+
+pub loop-j-init : goal.loop-j-init
+unfolding moved
+loop-j-init c = (omega arith, refl, refl)
+
+pub loop-j-preserved : goal.loop-j-preserved
+loop-j-preserved c = (omega arith, search rules, moved_more _ _ _ _ _ _ c.loop-j.invariant.2 c.copy.ensures)
+
+pub returns : goal.returns
+returns c = let e : c.loop-j.j ≡ c.args.k = omega arith in rw e at c.loop-j.invariant.2

@@ -1,0 +1,7 @@
+use mathlib.Core.Path.{sym}
+use borrow.Author.Rules.{rules}
+use Rattle.state.proofs.Cells.{number-in}
+use Rattle.state.proofs.number_at.Goals as goal
+
+pub returns : goal.returns
+returns c = rw c.word_at.ensures (sym (number-in _ _))

@@ -1,0 +1,15 @@
+use borrow.Author.Tests.{not-true, not-false}
+use Prim.Native.Nat.{◌-◌}
+use mathlib.Core.Path.{◌≡◌, refl, sym, ◌∙◌}
+use Rattle.state.specs.code.Cells.{cells_of}
+use Rattle.state.specs.code.Rooms.{first_free}
+use Rattle.state.proofs.Searches.{free_next, free_here, free_none}
+use borrow.Author.Rules.{rules}
+use native.Mathlib.Omega.{arith}
+use Rattle.state.proofs.rooms.free_room.Given as goal
+
+abbrev pub invariant-loop-r : goal.invariant-loop-r
+invariant-loop-r l = first_free (cells_of l.cells) l.from (128 - l.from) ≡ first_free (cells_of l.cells) l.r (128 - l.r)
+
+abbrev pub decreases-loop-r : goal.decreases-loop-r
+decreases-loop-r l = 128 - l.r

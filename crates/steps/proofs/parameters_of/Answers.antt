@@ -1,0 +1,7 @@
+use native.Mathlib.Omega.{arith}
+use borrow.Author.Rules.{rules}
+use Rattle.steps.proofs.Laws.{parameters-few}
+use Rattle.steps.proofs.parameters_of.Goals as goal
+
+pub overflow_cast-result : goal.overflow_cast-result
+overflow_cast-result c = omega (arith, c.parameters_end-end.ensures, parameters-few c.args.table.now c.args.p)
