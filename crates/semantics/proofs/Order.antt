@@ -4,7 +4,7 @@ use mathlib.Core.Path.{◌≡◌, refl, sym, subst, ◌∙◌}
 use mathlib.Core.Bool.{Bool, true, false, cond, ◌&&◌}
 use mathlib.Core.List.Memᴰ
 use mathlib.Core.List.{List, [], ◌∷◌}
-use mathlib.Core.Logic.{⊎_elim}
+use mathlib.Core.Logic.{◌⊎◌, inl, inr, ⊎_elim}
 use native.Mathlib.Omega.{arith}
 use borrow.Author.Tests.{ltb-true, ltb-false, eqb-true, eqb-false, eq-eqb}
 use lib.Dec.{eqb}
@@ -68,9 +68,18 @@ below_all : {e e' : Entry} {es : List Entry} → KeyBelow e e' → All (KeyBelow
 below_all l none_left = none_left
 below_all l (also l' a) = also (below_trans l l') (below_all l a)
 
+abbrev type_of : Entry → ℕ
+type_of (entry y a id) = y
+
+abbrev address_of : Entry → ℕ
+address_of (entry y a id) = a
+
+one-lower : {e e' : Entry} → KeyBelow e e' → (type_of e < type_of e') ⊎ (address_of e < address_of e')
+one-lower (lower-type l) = inl l
+one-lower (lower-address l) = inr l
+
 not-below : {e : Entry} → KeyBelow e e → ⊥
-not-below (lower-type l) = omega arith
-not-below (lower-address l) = omega arith
+not-below k = ⊎_elim (λ l. omega arith) (λ l. omega arith) (one-lower k)
 
 apart : {e e' : Entry} → e' ≡ e → KeyBelow e e' → ⊥
 apart {e} q l = not-below (subst (KeyBelow e) q l)
