@@ -1,4 +1,6 @@
 // The call list: refusals 15 and 16, and how many arguments a call has. It takes any bytes and any index.
+#![tactic(auto)]
+
 ghost use Rattle.std.specs.Prelude.{◌≡◌, not, ◌&&◌, ◌||◌, ◌+◌, ◌-◌, eqb, leb, length};
 ghost use Rattle.table.specs.Rows.{row_count};
 ghost use Rattle.declarations.specs.Program.{kinds_of, procedure_in, parameter_kinds, result_kinds};

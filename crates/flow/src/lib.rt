@@ -10,6 +10,7 @@ ghost use Rattle.flow.specs.code.Going.{followed_of, aside_of, GoesOn};
 use table::{Row, format};
 
 // The instruction that a walk is followed to from instruction i of n; n where there is none.
+#[tactic(auto, unfolding(crate::specs::code::Going::followed_of))]
 fn followed(n: usize, row: Row, i: usize) -> usize
     requires { i < 256 }
     ensures { result ≡ followed_of n row i }

@@ -64,6 +64,7 @@ module _ {R D : List ℕ} where
 
   -- the top operands by themselves
   top_shows : (u : Value) (ops : List Operand) → ShowsAll R D (topmost 1 ops) (u ∷ []) → Shows R D (top ops) (some u)
+  top_shows u [] x' = elim x' [ ]
   top_shows u (x ∷ ops) (and s a) = s
 
   both_show : (u w : Value) (ops : List Operand) → ShowsAll R D (topmost 2 ops) (u ∷ w ∷ []) → Shows R D (second ops) (some u) × Shows R D (top ops) (some w)

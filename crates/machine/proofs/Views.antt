@@ -241,10 +241,14 @@ unfolding up_from
 up_set cs b zero j x l = refl
 up_set cs b (suc n) zero x l =
     let e : b + 0 ≡ b = omega arith in
-    rw (e, get_or-set_same cs b x Empty (omega arith), up_same cs (set cs b x) (suc b) n (set_same cs b x (suc b) (suc b + n) (inl (omega arith))))
+    let here : get_or (set cs (b + 0) x) b Empty ≡ x = rw e (get_or-set_same cs b x Empty (omega arith)) in
+    let after : up_from (set cs (b + 0) x) (suc b) n ≡ up_from cs (suc b) n = rw e (up_same cs (set cs b x) (suc b) n (set_same cs b x (suc b) (suc b + n) (inl (omega arith)))) in
+    rw (here, after) refl
 up_set cs b (suc n) (suc j) x l =
     let e : b + suc j ≡ suc b + j = omega arith in
-    rw (e, get_or-set_other cs (suc b + j) b x Empty (λ q. omega arith), up_set cs (suc b) n j x (omega arith))
+    let here : get_or (set cs (b + suc j) x) b Empty ≡ get_or cs b Empty = rw e (get_or-set_other cs (suc b + j) b x Empty (λ q. omega arith)) in
+    let after : up_from (set cs (b + suc j) x) (suc b) n ≡ set (up_from cs (suc b) n) j x = rw e (up_set cs (suc b) n j x (omega arith)) in
+    rw (here, after) refl
 
 pub up_append : (cs : List Operand) (b k m : ℕ) → up_from cs b (k + m) ≡ up_from cs b k ++ up_from cs (b + k) m
 unfolding up_from

@@ -10,7 +10,7 @@ use state::frames::State;
 use state::{Operand, Reference, rooms, stops};
 
 // Where a reference leads: to a number in a cell, to the record with this serial number in a room, to nothing now, or to what no reference leads to.
-#[derive(Drop)]
+#[derive(Clone, Copy)]
 pub enum Target {
     Number(u16),
     Record(u32, u8),

@@ -1,5 +1,7 @@
 // The lines of calls (document 01, "Running"), written into a lent buffer. Each function puts its bytes from `at` on, as far as there is room, and
 // returns the place after the last byte that it put.
+#![tactic(auto)]
+
 ghost use Rattle.std.specs.Prelude.{◌≡◌, [], ◌∷◌, ◌++◌, map, ℕ, take};
 ghost use Rattle.semantics.specs.Machine.{State, num, finished, stopped};
 ghost use Rattle.semantics.specs.Ascii.{ascii};

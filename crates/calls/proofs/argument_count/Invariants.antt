@@ -1,0 +1,16 @@
+use Prim.Native.Nat.{◌+◌, ◌-◌, ◌≤◌}
+use mathlib.Core.Path.{◌≡◌, ap}
+use lib.ListN.{length}
+use Rattle.table.specs.Rows.{row_count}
+use Rattle.table.proofs.Laws.{is-kind, not-kind}
+use Rattle.semantics.specs.Calls.{argument_row, arguments}
+use Rattle.calls.proofs.Laws.{arguments_stop, arguments-end, count_more}
+use borrow.Author.Rules.{rules}
+use native.Mathlib.Omega.{arith}
+use Rattle.calls.proofs.argument_count.Given as goal
+
+abbrev pub invariant-loop-j : goal.invariant-loop-j
+invariant-loop-j l = (l.first ≤ l.j) × (l.j ≤ l.n) × (length (arguments l.list l.first (l.n - l.first)) ≡ l.j - l.first + length (arguments l.list l.j (l.n - l.j)))
+
+abbrev pub decreases-loop-j : goal.decreases-loop-j
+decreases-loop-j l = l.n - l.j

@@ -1,0 +1,5 @@
+use borrow.Author.Rules.{rules}
+use Rattle.calls.proofs.is_private.Goals as goal
+
+pub returns : goal.returns
+returns c = rw (← c.row_at.ensures)
