@@ -85,6 +85,7 @@ module _ (t : List ℕ) (J : Judged t (index_of t)) {T W : List ℕ} where
   below-fit (and_frame {i} d a k f) (over e c F S) = also (frame_fits {i = i} (omega arith) F a k) (below-fit f S)
 
   pub all_fit : {R D : List ℕ} {ms : List MFrame} {fs : List Frame} → ShowsFrames R D ms fs → Stack t (index_of t) T W fs → All FrameFits ms
+  all_fit {R = R} {D = D} no_frame x4 = elim x4 [ ]
   all_fit (and_frame {i} d a k f) (runs F S) = also (frame_fits {i = i} (omega arith) F a k) (below-fit f S)
 
 pub live_low : (t : List ℕ) → Judged t (index_of t) → {s p i : ℕ} {ops ls : List Operand} {ms : List MFrame} {rooms : List (Option MRoom)} {recs : ℕ} {es : List MEntry} {n : ℕ}

@@ -1,4 +1,6 @@
 // A call of a list: it begins, its instructions are run within its budget, and after a stop what lasts from call to call is as it was.
+#![tactic(auto)]
+
 ghost use Rattle.std.specs.Prelude.{◌≡◌, ◌+◌, ◌-◌, ◌/◌, ◌%◌, ◌≤◌, eqb, length};
 ghost use Rattle.table.specs.Rows.{row_at, row_count};
 ghost use Rattle.declarations.specs.Program.{code_of};
@@ -14,7 +16,7 @@ use table::index::{Index, ProcedureEntry};
 use table::{Row, format};
 
 // A state, and whether its entries and rooms are those that are kept.
-#[derive(Drop)]
+#[derive(Clone, Copy)]
 pub struct Ran {
     pub state: State,
     pub same: bool,

@@ -1,4 +1,6 @@
 // One instruction of the machine: a match on the opcode, and a function for each.
+#![tactic(auto)]
+
 ghost use Rattle.std.specs.Prelude.{◌≡◌};
 ghost use Rattle.state.specs.code.Cells.{cells_of};
 ghost use Rattle.frame.specs.code.Turning.{after};

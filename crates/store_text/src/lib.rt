@@ -1,5 +1,7 @@
 // The lines of the store (document 01, "Running"), written into a lent buffer: each function puts its bytes from `at` on, as far as there is room,
 // and returns the place after the last byte that it put.
+#![tactic(auto)]
+
 ghost use Rattle.std.specs.Prelude.{◌≤◌, ◌≡◌, [], ◌∷◌, ◌++◌, map, length};
 ghost use Rattle.semantics.specs.Ascii.{ascii};
 ghost use Rattle.semantics.specs.Text.{decimal, spaced};

@@ -1,0 +1,22 @@
+use Prim.Native.Nat.{ℕ, ◌-◌, ◌*◌, ◌/◌, ◌%◌, ◌≤◌}
+use mathlib.Core.Path.{◌≡◌, refl, ◌∙◌}
+use mathlib.Core.Bool.{Bool, cond, false}
+use mathlib.Core.List.{List}
+use lib.Dec.{eqb}
+use lib.ListN.{length}
+use Rattle.table.specs.declared.index.Index.{Index}
+use Rattle.state.specs.declared.Operand.{Operand}
+use Rattle.state.specs.declared.frames.State.{State}
+use Rattle.state.specs.code.Cells.{cells_of}
+use Rattle.interpreter.specs.code.Run.{same_by, run_from, same_from}
+use Rattle.interpreter.proofs.Loops.{run_ends, run_on, run_spent, same_ends, same-on, same-spent}
+use native.Mathlib.Omega.{arith}
+use borrow.Author.Rules.{rules}
+use Rattle.interpreter.proofs.run.Given as goal
+
+abbrev pub invariant-loop-left : goal.invariant-loop-left
+invariant-loop-left l = (length l.cells ≡ length l.initial.cells) × (run_from l.table l.index l.budget (cells_of l.initial.cells) l.initial.now ≡ run_from l.table l.index (l.left / 2) (cells_of l.cells) l.now)
+    × (same_from l.table l.index l.budget (cells_of l.initial.cells) l.initial.now ≡ cond (eqb (l.left % 2) 0) (same_from l.table l.index (l.left / 2) (cells_of l.cells) l.now) false)
+
+abbrev pub decreases-loop-left : goal.decreases-loop-left
+decreases-loop-left l = l.left / 2
