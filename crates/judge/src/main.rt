@@ -1,33 +1,44 @@
 // Reads table.bin, and rules.bin where there is one, and prints `accepted ROWS` or `refused N row R`. A missing table counts as no bytes; a missing rules.bin is
-// no rule file. Where reading fails no verdict is printed.
+// no rule file. Where reading fails no verdict is printed, and the program fails.
+#![tactic(auto)]
+
+ghost use Rattle.std.specs.Prelude.{OnOk};
+ghost use Rattle.std.specs.Io.KnownBytes.{Appends};
+ghost use Rattle.judging.specs.Judging.{judge_under};
+ghost use Rattle.printing.specs.Lines.{verdict_line};
+
+use anyhow::Context;
 use printing::Reading;
+use std::io;
+use std::io::Write;
+use std::rt::Files;
 
 // One byte more than the longest table, and than the longest rule file, so that a longer file is refused and not cut.
 const TABLE: usize = 32769;
 
 const RULES: usize = 4097;
 
-fn main() {
+fn main(rt: HostRuntime) -> anyhow::Result<()> {
     let mut table = [0u8; TABLE];
-    let of_table = printing::read_file(b"table.bin", &mut table);
-    let Reading::Bytes(n) = of_table else {
-        return;
-    };
-    judge_table(&table[..n]);
+    let n = printing::read_file(&rt, "table.bin", &mut table).context("table.bin")?;
+    judge_table(&rt, &table[..n])
 }
 
 // Judges the table under the rule file, where there is one.
-fn judge_table(table: &[u8]) {
+fn judge_table(rt: &(impl Files + Print), table: &[u8]) -> anyhow::Result<()> {
     let mut rules = [0u8; RULES];
-    let got = printing::read_if_there(b"rules.bin", &mut rules);
+    let got = printing::read_if_there(rt, "rules.bin", &mut rules).context("rules.bin")?;
+    let mut out = io::writer(rt);
     match got {
-        Reading::Bytes(k) => judge_under(table, &rules[..k], 1),
-        Reading::Missing => judge_under(table, &rules, 0),
-        Reading::Failed => {}
+        Reading::Bytes(k) => judge_under(&mut out, table, &rules[..k], 1),
+        Reading::Missing => judge_under(&mut out, table, &rules, 0),
     }
+    .context("standard output")
 }
 
 // Judges the table and prints the verdict.
-fn judge_under(table: &[u8], rules: &[u8], has: u64) {
-    printing::print_verdict(judging::judge_under(table, rules, has));
+fn judge_under<W: Write>(out: &mut W, table: &[u8], rules: &[u8], has: u64) -> io::Result<()>
+    ensures { OnOk result (Appends (W.contents out.old) (W.contents out.new) (verdict_line (judge_under has rules.now table.now))) }
+{
+    printing::print_verdict(out, judging::judge_under(table, rules, has))
 }

@@ -1,5 +1,10 @@
 // Judges the made tables of tables.bin, one after the other, each under its rule file, and prints a line for each. A case is a table, whether there is a rule
-// file, 0 or 1, and its bytes; table and file are their length and their bytes; a number is four bytes, lowest first.
+// file, 0 or 1, and its bytes; table and file are their length and their bytes; a number is four bytes, lowest first. Where reading fails the program fails.
+#![tactic(auto)]
+
+use anyhow::Context;
+use std::io::{Read, Write};
+use std::{fs, io};
 
 // The longest table and the longest rule file that a file may hold, and the most tables.
 const TABLE: usize = 65536;
@@ -8,40 +13,51 @@ const RULES: usize = 8192;
 
 const MOST: usize = 100000;
 
-fn main() {
-    let file = os::open_read(b"tables.bin");
-    if file < 0 {
-        os::fail(b"tables.bin");
-        return;
-    }
+fn main(rt: HostRuntime) -> anyhow::Result<()> {
+    let mut file = fs::open(&rt, "tables.bin").context("tables.bin")?;
     let mut table = [0u8; TABLE];
     let mut rules = [0u8; RULES];
-    judge_all(file, &mut table, &mut rules);
+    judge_all(&mut file, &mut io::writer(&rt), &mut table, &mut rules)
 }
 
 // Judges the tables of the file, each read into the buffers.
-fn judge_all(file: i32, table: &mut [u8], rules: &mut [u8]) {
-    let mut k = 0;
-    while k < MOST {
-        if !judge_next(file, table, rules) {
-            return;
+fn judge_all<R: Read, W: Write>(
+    file: &mut R,
+    out: &mut W,
+    table: &mut [u8],
+    rules: &mut [u8],
+) -> anyhow::Result<()> {
+    for _ in 0..MOST {
+        if !judge_next(file, out, table, rules)? {
+            break;
         }
-        k += 1;
     }
+    Ok(())
 }
 
 // Judges the next table; false where there is none, or where a part of it is too long or cut off.
-fn judge_next(file: i32, table: &mut [u8], rules: &mut [u8]) -> bool {
-    let n = printing::next_part(file, table, TABLE + 1);
+fn judge_next<R: Read, W: Write>(
+    file: &mut R,
+    out: &mut W,
+    table: &mut [u8],
+    rules: &mut [u8],
+) -> anyhow::Result<bool> {
+    let Some(n) = printing::next_part(file, table).context("input")? else {
+        return Ok(false);
+    };
     if table.len() < n {
-        return false;
+        return Ok(false);
     }
-    let has = printing::next_number(file, 0);
-    let m = printing::next_part(file, rules, RULES + 1);
+    let Some(has) = printing::next_number(file).context("input")? else {
+        return Ok(false);
+    };
+    let Some(m) = printing::next_part(file, rules).context("input")? else {
+        return Ok(false);
+    };
     if rules.len() < m {
-        return false;
+        return Ok(false);
     }
     let verdict = judging::judge_under(&table[..n], &rules[..m], has as u64);
-    printing::print_verdict(verdict);
-    true
+    printing::print_verdict(out, verdict).context("standard output")?;
+    Ok(true)
 }

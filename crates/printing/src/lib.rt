@@ -1,169 +1,176 @@
-// What the programs read and print. No contract can say what is read or written; what is printed is compared with the second implementation's lines.
-// A read or a write that fails is told on standard error.
-ghost use Rattle.std.specs.Prelude.{◌<◌, length};
+// What the programs read and print. What is read from a file and printed on standard output no contract can say: of any other reader and writer whose bytes are
+// known, the contracts say which of them are taken and written. After an error some of the text may be written, and some of the bytes taken.
+#![tactic(auto)]
+
+ghost use Rattle.std.specs.Prelude.{◌≡◌, ℕ, ◌+◌, ◌<◌, ◌≤◌, ◌↔◌, length, take, drop, true, false, Ok, IfOk, OnOk, OnErr, IfSome, IsTrue};
+ghost use Rattle.std.specs.Io.KnownBytes.{Appends, Consumes, IsAtEnd, Keeps};
+ghost use Rattle.laws.specs.Numbers.{le};
+ghost use Rattle.printing.specs.Lines.{verdict_line, printed_of};
+ghost use Rattle.printing.specs.Parts.{first_number, first_part, Loses};
 ghost use Rattle.printing.specs.code.Reading.{Fits};
 
-use libc::STDOUT_FILENO;
+use std::io::{ErrorKind, Read, Write};
+use std::rt::Files;
+use std::{fs, io};
 use table::Verdict;
 
-// `accepted ROWS` or `refused N row R`, on standard output.
-pub fn print_verdict(verdict: Verdict) {
-    tell_unless(write_verdict(verdict));
-}
-
-fn write_verdict(verdict: Verdict) -> bool {
+// `accepted ROWS` or `refused N row R`, and the end of the line.
+pub fn print_verdict<W: Write>(out: &mut W, verdict: Verdict) -> io::Result<()>
+    ensures { OnOk result (Appends (W.contents out.old) (W.contents out.new) (verdict_line verdict)) }
+{
     match verdict {
-        Verdict::Accepted(rows) => write_number(b"accepted ", rows)
-            && io::write_all(STDOUT_FILENO, b"\n"),
-        Verdict::Refused(number, row) => write_number(b"refused ", number as usize)
-            && write_number(b" row ", row)
-            && io::write_all(STDOUT_FILENO, b"\n"),
+        Verdict::Accepted(rows) => writeln!(out, "accepted {rows}"),
+        Verdict::Refused(number, row) => writeln!(out, "refused {number} row {row}"),
     }
 }
 
-// A word and a number.
-fn write_number(word: &[u8], number: usize) -> bool {
-    io::write_all(STDOUT_FILENO, word) && io::print_decimal(STDOUT_FILENO, number as u64)
-}
-
-fn tell_unless(written: bool) {
-    if !written {
-        os::fail(b"standard output");
-    }
-}
-
-// The text of a run, which stands at the buffer's start, or the line of its refusal, on standard output.
-pub fn print_run(answer: Verdict, text: &[u8]) {
+// The text of a run, which stands at the buffer's start, or the line of its refusal.
+pub fn print_run<W: Write>(out: &mut W, answer: Verdict, text: &[u8]) -> io::Result<()>
+    ensures { OnOk result (Appends (W.contents out.old) (W.contents out.new) (printed_of answer text.now)) }
+{
     match answer {
         Verdict::Accepted(size) => {
             if size <= text.len() {
-                tell_unless(io::write_all(STDOUT_FILENO, &text[..size]));
+                out.write_all(&text[..size])
+            } else {
+                Ok(())
             }
         }
-        Verdict::Refused(number, row) => print_verdict(Verdict::Refused(number, row)),
+        Verdict::Refused(number, row) => print_verdict(out, Verdict::Refused(number, row)),
     }
 }
 
-// What reading gave: so many bytes, at the buffer's start; no file of the name; or a read that failed.
-#[derive(Drop)]
+// What reading gave: so many bytes, at the buffer's start; or no file of the name.
+#[derive(Clone, Copy)]
 pub enum Reading {
     Bytes(usize),
     Missing,
-    Failed,
 }
 
 // How often a read that a signal interrupts is asked again.
 const TRIES: usize = 1000;
 
-// Fills the buffer from the file of this name, up to the file's end. A missing file has no bytes.
-pub fn read_file(name: &[u8], room: &mut [u8]) -> Reading
-    ensures { Fits result (length room.old) }
+// Fills the buffer from the file of this name, up to the file's end: so many bytes. A missing file has none.
+pub fn read_file<R: Files>(rt: &R, name: &str, room: &mut [u8]) -> io::Result<usize>
+    ensures { IfOk result (λ n. n ≤ length room.old) }
 {
-    let got = read_if_there(name, room);
-    match got {
-        Reading::Bytes(n) => Reading::Bytes(n),
-        Reading::Missing => Reading::Bytes(0),
-        Reading::Failed => Reading::Failed,
+    match read_if_there(rt, name, room)? {
+        Reading::Bytes(n) => Ok(n),
+        Reading::Missing => Ok(0),
     }
 }
 
 // The same, and a missing file is told.
-pub fn read_if_there(name: &[u8], room: &mut [u8]) -> Reading
-    ensures { Fits result (length room.old) }
+pub fn read_if_there<R: Files>(rt: &R, name: &str, room: &mut [u8]) -> io::Result<Reading>
+    ensures { IfOk result (λ got. Fits got (length room.old)) }
 {
-    let file = os::open_read(name);
-    if file < 0 {
-        if os::errno() == libc::ENOENT {
-            return Reading::Missing;
+    match fs::open(rt, name) {
+        Ok(mut file) => {
+            let n = read_on(&mut file, room)?;
+            Ok(Reading::Bytes(n))
         }
-        os::fail(name);
-        return Reading::Failed;
-    }
-    let got = read_on(file, room);
-    tell_failed(got, name);
-    libc::close(file);
-    got
-}
-
-fn tell_failed(got: Reading, name: &[u8]) {
-    match got {
-        Reading::Bytes(n) => {}
-        Reading::Missing => {}
-        Reading::Failed => os::fail(name),
+        Err(e) => {
+            if e.kind() == ErrorKind::NotFound {
+                Ok(Reading::Missing)
+            } else {
+                Err(e)
+            }
+        }
     }
 }
 
-// Fills the buffer from the open file, up to the file's end.
-fn read_on(file: i32, room: &mut [u8]) -> Reading
-    ensures { Fits result (length room.old) }
+// Fills the buffer from the reader, up to its end: so many bytes. Where a read fails, what was read before stands at the buffer's start.
+fn read_on<R: Read>(file: &mut R, room: &mut [u8]) -> io::Result<usize>
+    ensures fits { IfOk result (λ n. n ≤ length room.old) }
+    ensures bytes { IfOk result (λ n. Consumes (R.remaining file.old) (R.remaining file.new) (take n room.new)) }
+    ensures end { IfOk result (λ n. n < length room.old → IsAtEnd (R.remaining file.new)) }
+    ensures err { OnErr result ((n : ℕ) × Consumes (R.remaining file.old) (R.remaining file.new) (take n room.new)) }
 {
     let mut done = 0;
     while done < room.len() {
-        let got = read_some(file, &mut room[done..]);
-        let Reading::Bytes(n) = got else {
-            return Reading::Failed;
-        };
+        let n = read_some(file, &mut room[done..])?;
         if n == 0 {
-            return Reading::Bytes(done);
+            return Ok(done);
         }
         done += n;
     }
-    Reading::Bytes(done)
+    Ok(done)
 }
 
-// One read, asked again where a signal interrupts it; no bytes at the file's end.
-fn read_some(file: i32, room: &mut [u8]) -> Reading
-    ensures { Fits result (length room.old) }
+// One read, asked again where a signal interrupts it; no bytes at the end.
+fn read_some<R: Read>(file: &mut R, room: &mut [u8]) -> io::Result<usize>
+    ensures fits { IfOk result (λ n. n ≤ length room.old) }
+    ensures bytes { IfOk result (λ n. Consumes (R.remaining file.old) (R.remaining file.new) (take n room.new)) }
+    ensures end { IfOk result (λ n. n ≡ 0 → 0 < length room.old → IsAtEnd (R.remaining file.new)) }
+    ensures err { OnErr result (Keeps (R.remaining file.old) (R.remaining file.new)) }
 {
-    let mut tries = 0;
-    while tries < TRIES {
-        let got = libc::read(file, room);
-        if got >= 0 {
-            return Reading::Bytes(io::count(got, room));
+    for _ in 1..TRIES {
+        match file.read(room) {
+            Ok(n) => return Ok(n),
+            Err(e) => {
+                if e.kind() != ErrorKind::Interrupted {
+                    return Err(e);
+                }
+            }
         }
-        if os::errno() != libc::EINTR {
-            return Reading::Failed;
-        }
-        tries += 1;
     }
-    Reading::Failed
+    file.read(room)
 }
 
-// Fills the whole buffer from the open file; false where the file ends before.
-pub fn read_whole(file: i32, room: &mut [u8]) -> bool {
-    let got = read_on(file, room);
-    tell_failed(got, b"input");
-    match got {
-        Reading::Bytes(n) => n == room.len(),
-        Reading::Missing => false,
-        Reading::Failed => false,
-    }
+// Fills the whole buffer from the reader; false where it ends before.
+pub fn read_whole<R: Read>(file: &mut R, room: &mut [u8]) -> io::Result<bool>
+    ensures whole { IfOk result (λ whole. IfSome (R.remaining file.old)
+        (λ xs. IsTrue whole ↔ (length room.old ≤ length xs))) }
+    ensures bytes { result ≡ Ok true → IfSome (R.remaining file.old)
+        (λ xs. room.new ≡ take (length room.old) xs) }
+    ensures rest { OnOk result (Loses (R.remaining file.old) (R.remaining file.new) (length room.old)) }
+    ensures end { result ≡ Ok false → IsAtEnd (R.remaining file.new) }
+{
+    let n = read_on(file, room)?;
+    Ok(n == room.len())
 }
 
-// The next number of a file, four bytes, lowest first; `absent` where the file ends before.
-pub fn next_number(file: i32, absent: usize) -> usize {
+// The next number of a file, four bytes, lowest first; none where the file ends before.
+pub fn next_number<R: Read>(file: &mut R) -> io::Result<Option<usize>>
+    ensures number { IfOk result (λ n. IfSome (R.remaining file.old) (λ xs. n ≡ first_number xs)) }
+    ensures rest { OnOk result (Loses (R.remaining file.old) (R.remaining file.new) 4) }
+{
     let mut head = [0u8; 4];
-    if !read_whole(file, &mut head) {
-        return absent;
+    if !read_whole(file, &mut head)? {
+        return Ok(None);
     }
+    Ok(Some(number_of(&head)))
+}
+
+// The number of four bytes, lowest first.
+fn number_of(head: &[u8; 4]) -> usize
+    ensures { result ≡ le head.now 0 4 }
+{
     wide(head[0]) + 256 * wide(head[1]) + 65536 * wide(head[2]) + 16777216 * wide(head[3])
 }
 
-// The next part of a file, its length and then its bytes, which are read to the buffer's start: its length. A length above the buffer's says that the part is
-// too long for it and not read; `absent` is given where the file ends before.
-pub fn next_part(file: i32, room: &mut [u8], absent: usize) -> usize {
-    let n = next_number(file, absent);
-    if room.len() < n {
-        return n;
-    }
-    if !read_whole(file, &mut room[..n]) {
-        return absent;
-    }
-    n
-}
-
 fn wide(x: u8) -> usize
-    ensures { result < 256 }
+    ensures value { result ≡ x }
+    ensures byte { result < 256 }
 {
     x as usize
+}
+
+// The next part of a file, its length and then its bytes, which are read to the buffer's start: its length. A length above the buffer's says that the part is
+// too long for it and not read; there is none where the file ends before.
+pub fn next_part<R: Read>(file: &mut R, room: &mut [u8]) -> io::Result<Option<usize>>
+    ensures part { IfOk result (λ part. IfSome (R.remaining file.old)
+        (λ xs. part ≡ first_part (length room.old) xs)) }
+    ensures bytes { IfOk result (λ part. IfSome part (λ n. n ≤ length room.old
+        → IfSome (R.remaining file.old) (λ xs. take n room.new ≡ take n (drop 4 xs)))) }
+    ensures rest { IfOk result (λ part. IfSome part (λ n. n ≤ length room.old
+        → Loses (R.remaining file.old) (R.remaining file.new) (4 + n))) }
+{
+    let Some(n) = next_number(file)? else {
+        return Ok(None);
+    };
+    if n <= room.len() && !read_whole(file, &mut room[..n])? {
+        return Ok(None);
+    }
+    Ok(Some(n))
 }

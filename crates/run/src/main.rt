@@ -1,6 +1,17 @@
 // Reads table.bin and calls.bin, and rules.bin where there is one, and prints the text of the calls, or the refusal line. A missing table or list counts as no
-// bytes; a missing rules.bin is no rule file. Where reading fails nothing is printed.
+// bytes; a missing rules.bin is no rule file. Where reading fails nothing is printed, and the program fails.
+#![tactic(auto)]
+
+ghost use Rattle.std.specs.Prelude.{OnOk, replicate};
+ghost use Rattle.std.specs.Io.KnownBytes.{Appends};
+ghost use Rattle.semantics.specs.Run.{min_text, run_of};
+ghost use Rattle.printing.specs.Lines.{printed_of};
+
+use anyhow::Context;
 use printing::Reading;
+use std::io;
+use std::io::Write;
+use std::rt::Files;
 
 // One byte more than the longest table, list and rule file, so that a longer file is refused and not cut.
 const TABLE: usize = 32769;
@@ -9,34 +20,38 @@ const LIST: usize = 4097;
 
 const RULES: usize = 4097;
 
-fn main() {
+fn main(rt: HostRuntime) -> anyhow::Result<()> {
     let mut table = [0u8; TABLE];
     let mut list = [0u8; LIST];
-    let of_table = printing::read_file(b"table.bin", &mut table);
-    let Reading::Bytes(n) = of_table else {
-        return;
-    };
-    let of_list = printing::read_file(b"calls.bin", &mut list);
-    let Reading::Bytes(k) = of_list else {
-        return;
-    };
-    run_files(&table[..n], &list[..k]);
+    let n = printing::read_file(&rt, "table.bin", &mut table).context("table.bin")?;
+    let k = printing::read_file(&rt, "calls.bin", &mut list).context("calls.bin")?;
+    run_files(&rt, &table[..n], &list[..k])
 }
 
 // Runs the list over the table, judged under the rule file, where there is one.
-fn run_files(table: &[u8], list: &[u8]) {
+fn run_files(rt: &(impl Files + Print), table: &[u8], list: &[u8]) -> anyhow::Result<()> {
     let mut rules = [0u8; RULES];
-    let got = printing::read_if_there(b"rules.bin", &mut rules);
+    let got = printing::read_if_there(rt, "rules.bin", &mut rules).context("rules.bin")?;
+    let mut out = io::writer(rt);
     match got {
-        Reading::Bytes(m) => run_under(table, list, &rules[..m], 1),
-        Reading::Missing => run_under(table, list, &rules, 0),
-        Reading::Failed => {}
+        Reading::Bytes(m) => run_under(&mut out, table, list, &rules[..m], 1),
+        Reading::Missing => run_under(&mut out, table, list, &rules, 0),
     }
+    .context("standard output")
 }
 
 // Runs the list over the table and prints the text, or the refusal.
-fn run_under(table: &[u8], list: &[u8], rules: &[u8], has: u64) {
+fn run_under<W: Write>(
+    out: &mut W,
+    table: &[u8],
+    list: &[u8],
+    rules: &[u8],
+    has: u64,
+) -> io::Result<()>
+    ensures { let ran = run_of has rules.now table.now list.now (replicate min_text 0) in
+        OnOk result (Appends (W.contents out.old) (W.contents out.new) (printed_of ran.answer ran.buffer)) }
+{
     let mut text = [0u8; running::MIN_TEXT];
     let answer = running::run_list(table, list, rules, has, &mut text);
-    printing::print_run(answer, &text);
+    printing::print_run(out, answer, &text)
 }

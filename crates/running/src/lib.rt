@@ -1,5 +1,7 @@
 // Running a list of calls over a table: the table, under a rule file where there is one, the list and the buffer are judged first, and only then is
 // anything run.
+#![tactic(auto)]
+
 ghost use Rattle.std.specs.Prelude.{◌≡◌};
 ghost use Rattle.semantics.specs.Run.{run_of};
 ghost use Rattle.text.specs.code.Placing.{placed};

@@ -1,4 +1,6 @@
 // The functions that a host written in C calls.
+#![tactic(auto)]
+
 ghost use Rattle.std.specs.Prelude.{◌≡◌};
 ghost use Rattle.semantics.specs.Run.{run_of};
 ghost use Rattle.judging.specs.Judging.{judge_under, answer_of};

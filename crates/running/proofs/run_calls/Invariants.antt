@@ -1,0 +1,20 @@
+use Prim.Native.Nat.{ℕ, ◌-◌, ◌≤◌}
+use mathlib.Core.Path.{◌≡◌, refl, ap, ◌∙◌}
+use lib.ListN.{length, replicate, length-replicate}
+use Rattle.table.specs.Rows.{row_count}
+use Rattle.table.proofs.Laws.{is-kind, not-kind}
+use Rattle.semantics.specs.Calls.{call_row}
+use Rattle.text.specs.code.Placing.{placed}
+use Rattle.state.specs.code.Cells.{cells_of}
+use Rattle.running.specs.code.Lists.{text_in}
+use Rattle.running.proofs.Laws.{text_at, text_call, text_other, text_start, text_done}
+use borrow.Author.Rules.{rules}
+use native.Mathlib.Omega.{arith}
+use Rattle.running.proofs.run_calls.Given as goal
+
+abbrev pub invariant-loop-i : goal.invariant-loop-i
+invariant-loop-i l = (l.call ≤ l.i) × (l.i ≤ row_count l.list) × (length l.text ≡ length l.initial.text) × (length l.cells ≡ 3648) × (length l.saved ≡ 3648)
+    × (placed l.initial.text 0 (text_in l.table l.index l.list) ≡ placed l.text l.end (text_at l.table l.index l.list l.i l.call l.last.same (cells_of l.cells) (cells_of l.saved) l.last.state))
+
+abbrev pub decreases-loop-i : goal.decreases-loop-i
+decreases-loop-i l = row_count l.list - l.i
