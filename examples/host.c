@@ -1,6 +1,7 @@
 /* A host in C: judges good, bad and empty tables and runs lists of calls through the static library, and checks each answer. Run it from the project's folder.
  *
- *     rt staticlib yithrel && gcc -Wall -Wextra -O2 -Iinclude examples/host.c target/staticlib/libyithrel.a -o target/host && target/host
+ *     (cd crates/yithrel && rt lib) && mkdir -p target
+ *     gcc -Wall -Wextra -O2 -Iinclude examples/host.c crates/yithrel/out/libyithrel.a -o target/host && target/host
  *
  * The status is 0 if all answers are right, 1 if one is wrong, 2 if a file cannot be read.
  */

@@ -1,12 +1,13 @@
 /* The smallest host, in C or C++: runs the calls in one file over the table in another, and prints the text or the refusal. The status is 0 after the text, 1
  * after a refusal, 2 where a file cannot be read or the text cannot be written.
  *
- *     gcc -Iinclude examples/minimal.c target/staticlib/libyithrel.a -o target/minimal
+ *     (cd crates/yithrel && rt lib) && mkdir -p target
+ *     gcc -Iinclude examples/minimal.c crates/yithrel/out/libyithrel.a -o target/minimal
  *     target/minimal examples/credit.bin examples/credit-calls.bin
  *
  * With a shared object:
  *
- *     gcc -shared -u yithrel_judge -u yithrel_run target/staticlib/libyithrel.a -o target/libyithrel.so
+ *     gcc -shared -u yithrel_judge -u yithrel_run crates/yithrel/out/libyithrel.a -o target/libyithrel.so
  *     gcc -Iinclude examples/minimal.c -Ltarget -lyithrel -Wl,-rpath,'$ORIGIN' -o target/minimal
  */
 #include <stdio.h>

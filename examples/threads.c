@@ -1,7 +1,8 @@
 /* Threads that judge and run several tables at once, two for each table, on stacks of the stated sizes; each checks its answers. Run it from the project's
  * folder.
  *
- *     gcc -Iinclude examples/threads.c target/staticlib/libyithrel.a -pthread -o target/threads && target/threads
+ *     (cd crates/yithrel && rt lib) && mkdir -p target
+ *     gcc -Iinclude examples/threads.c crates/yithrel/out/libyithrel.a -pthread -o target/threads && target/threads
  *
  * The status is 0 if all answers are right, 1 if one is wrong, 2 if a file cannot be read or a thread cannot be started.
  */

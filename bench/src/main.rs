@@ -2,6 +2,8 @@
 //! several kinds, and in their answers, on as many made tables and runs as wanted, each with its made rule file. Draws the speed, in
 //! docs/speed.svg unless another path is given. Measures the stack that the C functions need, without a rule file and with one.
 //!
+//! It links crates/yithrel/out/libyithrel.a: `(cd crates/yithrel && rt lib)` comes first.
+//!
 //!     bench speed
 //!     bench compare SEED COUNT
 //!     bench speed-runs

@@ -16,6 +16,7 @@ use table::index::Index;
 use table::{Row, format};
 
 // Visits a place of each row after the instruction at row `at`, whose procedure's first instruction is at row `base`.
+#[tactic(auto, using(crate::proofs::Laws::next_both, crate::proofs::Laws::next_one))]
 fn visit_next(
     visited: &mut [bool],
     queue: &mut [u16],

@@ -24,7 +24,7 @@ pub loop-r-preserved-then-makes_mark : goal.loop-r-preserved-then-makes_mark
 loop-r-preserved-then-makes_mark c =
     let l = c.loop-r in
     let v = c.visit_next-tail in (
-      up_next _ l.r _ _ l.invariant.0 (omega arith) (made_some _ _ _ _ _ _ c.if-arrives-r.true (sym c.makes_mark.ensures ∙ c.if-makes_mark.true) c.row_at-row.ensures v.ensures),
+      up_next _ l.r _ _ l.invariant.0 (omega arith) (made_some _ _ _ _ _ _ (search rules) (sym c.makes_mark.ensures ∙ c.if-makes_mark.true) c.row_at-row.ensures v.ensures),
       omega arith,
       v.auto.visited ∙ l.invariant.2,
       v.auto.queue ∙ l.invariant.3,
@@ -33,7 +33,7 @@ loop-r-preserved-then-makes_mark c =
 pub loop-r-preserved-else-makes_mark : goal.loop-r-preserved-else-makes_mark
 loop-r-preserved-else-makes_mark c =
     let l = c.loop-r in (
-      up_next _ l.r _ _ l.invariant.0 (omega arith) (made_none _ _ _ _ _ _ c.if-arrives-r.true (sym c.makes_mark.ensures ∙ c.if-makes_mark.false)),
+      up_next _ l.r _ _ l.invariant.0 (omega arith) (made_none _ _ _ _ _ _ (search rules) (sym c.makes_mark.ensures ∙ c.if-makes_mark.false)),
       omega arith,
       l.invariant.2,
       l.invariant.3,
@@ -42,7 +42,7 @@ loop-r-preserved-else-makes_mark c =
 pub loop-r-preserved-else-row-eq-BORROW_FLD : goal.loop-r-preserved-else-row-eq-BORROW_FLD
 loop-r-preserved-else-row-eq-BORROW_FLD c =
     let l = c.loop-r in (
-      up_next _ l.r _ _ l.invariant.0 (omega arith) (made_none _ _ _ _ _ _ c.if-arrives-r.true (sym (makes_other _ c.args.index _ c.row_at-row.ensures c.if-row-eq-BORROW_FLD.false))),
+      up_next _ l.r _ _ l.invariant.0 (omega arith) (made_none _ _ _ _ _ _ (search rules) (sym (makes_other _ c.args.index _ c.row_at-row.ensures c.if-row-eq-BORROW_FLD.false))),
       omega arith,
       l.invariant.2,
       l.invariant.3,
@@ -51,7 +51,7 @@ loop-r-preserved-else-row-eq-BORROW_FLD c =
 pub loop-r-preserved : goal.loop-r-preserved
 loop-r-preserved c =
     let l = c.loop-r in (
-      up_next _ l.r _ _ l.invariant.0 (omega arith) (made_missed _ _ _ _ _ _ c.if-arrives-r.false),
+      up_next _ l.r _ _ l.invariant.0 (omega arith) (made_missed _ _ _ _ _ _ (search rules)),
       omega arith,
       l.invariant.2,
       l.invariant.3,

@@ -22,8 +22,3 @@ overflow_mul-width c = let a = c.args in omega (arith, node_small a.width (a.at 
 pub overflow_add-width : goal.overflow_add-width
 overflow_add-width c = let a = c.args in omega (arith, node_small a.width (a.at + 1) (omega arith) (omega arith))
 
-pub returns-then-row-eq-BRANCH_COND : goal.returns-then-row-eq-BRANCH_COND
-returns-then-row-eq-BRANCH_COND c = next_both _ _ _ _ _ _ c.visit-end.ensures c.if-row-eq-BRANCH_COND.true c.visit-then-row-eq-BRANCH_COND.ensures
-
-pub returns : goal.returns
-returns c = next_one _ _ _ _ _ _ c.visit-end.ensures c.if-row-eq-RET.false c.if-row-eq-BRANCH.false c.if-row-eq-BRANCH_COND.false

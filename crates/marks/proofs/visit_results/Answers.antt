@@ -5,10 +5,9 @@ use native.Mathlib.Omega.{arith}
 use borrow.Author.Rules.{rules}
 use lib.ListN.{length}
 use Rattle.reach.specs.code.Search.{after, visit_all}
-use Rattle.marks.specs.code.Search.{result_edges}
+use Rattle.marks.specs.code.Search.{result_edges, pushed_at}
 use Rattle.marks.proofs.Laws.{pushed_yes, pushed_no, results_past, results_next, results_end}
 use Rattle.marks.proofs.visit_results.Goals as goal
-use Rattle.marks.proofs.visit_results.Goals.{else-arrives-row, then-arrives-row}
 
 pub returns-then-results-r : goal.returns-then-results-r
 returns-then-results-r c = results_past _ _ _ _ _ _ (omega arith)
@@ -26,11 +25,12 @@ pub loop-at-preserved : goal.loop-at-preserved
 loop-at-preserved c =
     let l = c.loop-at in
     let below = c.if-results-r.false in
-    let falls = c.requires.4 in (
-      (elim c.if-arrives-row.branch [ then-arrives-row w ↦ rw (w.visited-is, w.queue-is, w.end-is) (results_next _ _ _ _ (omega (arith, below)) l.at _ _ l.invariant.0 falls (omega arith) (omega arith) (pushed_yes c.args.before.now _ _ _ _ _ w.if-arrives-row.true w.visit-end.ensures)) | else-arrives-row w ↦ rw (w.visited-is, w.queue-is, w.end-is) (results_next _ _ _ _ (omega (arith, below)) l.at _ _ l.invariant.0 falls (omega arith) (omega arith) (pushed_no c.args.before.now _ _ _ _ _ w.if-arrives-row.false)) ]),
+    let falls = c.requires.4 in
+    let from = after l.visited l.queue l.end in (
+      results_next _ _ _ _ (omega (arith, below)) l.at _ _ l.invariant.0 falls (omega arith) (omega arith) (search (rules, pushed_yes c.args.before.now c.args.arrives.now c.args.results c.args.r (l.at - 1) from, pushed_no c.args.before.now c.args.arrives.now c.args.results c.args.r (l.at - 1) from)),
       omega (arith, falls (l.at - 1)),
-      (elim c.if-arrives-row.branch [ then-arrives-row w ↦ rw w.visited-is (w.visit-end.auto.visited ∙ l.invariant.2) | else-arrives-row w ↦ rw w.visited-is l.invariant.2 ]),
-      (elim c.if-arrives-row.branch [ then-arrives-row w ↦ rw w.queue-is (w.visit-end.auto.queue ∙ l.invariant.3) | else-arrives-row w ↦ rw w.queue-is l.invariant.3 ]),
+      (search rules),
+      (search rules),
     )
 
 pub shape_of-visited : goal.shape_of-visited
