@@ -1,5 +1,5 @@
 -- Places, lists and references that stand for each other.
-use Prim.Native.Nat.{ℕ, zero, suc, ◌+◌, ◌-◌, ◌≤◌}
+use Prim.Native.Nat.{ℕ, zero, suc, ◌≤◌}
 use mathlib.Core.Path.{◌≡◌, refl, ap, sym, ◌∙◌}
 use mathlib.Core.Bool.{Bool, true, false, cond, true≢false}
 use mathlib.Core.List.{List, [], ◌∷◌, ◌++◌}
@@ -14,7 +14,6 @@ use Rattle.semantics.proofs.Changes.{clash}
 use Rattle.semantics.proofs.Typing.{◌⊑◌}
 use Rattle.state.specs.declared.Operand.{Operand}
 use Rattle.state.specs.declared.Operand.TheVariants.{Empty, Number}
-use Rattle.machine.specs.code.Machine as M
 use Rattle.machine.specs.code.Machine.{MFrame, mframe, MEntry, back_to, held, local_at, put_at}
 use Rattle.machine.proofs.Represents.{Shows, empty, number, whole, to_aLocal, to_aField, to_aRecord, ShowsAll, no_more, and, ShowsLocals, no_local, and_local, ShowsFrames, no_frame, and_frame, ShowsStore, no-entry, and_entry}
 

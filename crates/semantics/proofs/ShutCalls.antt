@@ -1,5 +1,5 @@
 -- Wrong ends of calls are not safe, and wrong lists of events are not chained: the wrong machines that these clauses of the claim shut out.
-use Prim.Native.Nat.{ℕ, zero, suc, ◌+◌, ◌-◌, ◌<◌}
+use Prim.Native.Nat.{ℕ, zero, suc, ◌-◌, ◌<◌}
 use mathlib.Core.Path.{◌≡◌, refl}
 use mathlib.Core.List.{List, [], ◌∷◌, ◌++◌, map}
 use mathlib.Core.Logic.{◌⊎◌, ⊎_elim, ◌≢◌}

@@ -1,10 +1,5 @@
-use Prim.Native.Nat.{◌-◌}
-use mathlib.Core.Path.{◌≡◌, refl, sym, ◌∙◌}
-use Rattle.declarations.specs.Program.{kinds_of}
-use Rattle.semantics.specs.Calls.{all_numbers}
+use mathlib.Core.Path.{refl, sym, ◌∙◌}
 use Rattle.calls.proofs.Laws.{numbers_more, numbers-not, numbers-end}
-use borrow.Author.Rules.{rules}
-use native.Mathlib.Omega.{arith}
 use Rattle.calls.proofs.all_numbers.Goals as goal
 
 pub loop-i-init : goal.loop-i-init

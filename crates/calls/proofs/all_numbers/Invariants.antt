@@ -1,10 +1,7 @@
 use Prim.Native.Nat.{◌-◌}
-use mathlib.Core.Path.{◌≡◌, refl, sym, ◌∙◌}
+use mathlib.Core.Path.{◌≡◌}
 use Rattle.declarations.specs.Program.{kinds_of}
 use Rattle.semantics.specs.Calls.{all_numbers}
-use Rattle.calls.proofs.Laws.{numbers_more, numbers-not, numbers-end}
-use borrow.Author.Rules.{rules}
-use native.Mathlib.Omega.{arith}
 use Rattle.calls.proofs.all_numbers.Given as goal
 
 abbrev pub invariant-loop-i : goal.invariant-loop-i

@@ -1,11 +1,10 @@
-use Prim.Native.Nat.{◌+◌, ◌-◌, ◌≤◌}
-use mathlib.Core.Path.{◌≡◌, ap}
+use Prim.Native.Nat.{◌+◌, ◌-◌}
+use mathlib.Core.Path.{ap}
 use lib.ListN.{length}
 use Rattle.table.specs.Rows.{row_count}
 use Rattle.table.proofs.Laws.{is-kind, not-kind}
-use Rattle.semantics.specs.Calls.{argument_row, arguments}
+use Rattle.semantics.specs.Calls.{argument_row}
 use Rattle.calls.proofs.Laws.{arguments_stop, arguments-end, count_more}
-use borrow.Author.Rules.{rules}
 use native.Mathlib.Omega.{arith}
 use Rattle.calls.proofs.argument_count.Goals as goal
 

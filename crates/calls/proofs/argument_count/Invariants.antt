@@ -1,12 +1,7 @@
 use Prim.Native.Nat.{◌+◌, ◌-◌, ◌≤◌}
-use mathlib.Core.Path.{◌≡◌, ap}
+use mathlib.Core.Path.{◌≡◌}
 use lib.ListN.{length}
-use Rattle.table.specs.Rows.{row_count}
-use Rattle.table.proofs.Laws.{is-kind, not-kind}
-use Rattle.semantics.specs.Calls.{argument_row, arguments}
-use Rattle.calls.proofs.Laws.{arguments_stop, arguments-end, count_more}
-use borrow.Author.Rules.{rules}
-use native.Mathlib.Omega.{arith}
+use Rattle.semantics.specs.Calls.{arguments}
 use Rattle.calls.proofs.argument_count.Given as goal
 
 abbrev pub invariant-loop-j : goal.invariant-loop-j

@@ -1,5 +1,4 @@
 use mathlib.Core.Path.{sym, ◌∙◌}
-use borrow.Author.Rules.{rules}
 use Rattle.calls.proofs.bad_form.Goals as goal
 
 pub returns-then-bad_kind : goal.returns-then-bad_kind

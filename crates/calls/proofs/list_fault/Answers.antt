@@ -4,7 +4,6 @@ use borrow.Author.Tests.{eq-eqb, ne_eqb}
 use Rattle.table.specs.Rows.{row_count}
 use Rattle.semantics.specs.Calls.{arguments, bad_call, list_fault}
 use Rattle.calls.proofs.Laws.{bad_call-is}
-use borrow.Author.Rules.{rules}
 use Rattle.calls.proofs.list_fault.Goals as goal
 
 pub returns-then-bad_form : goal.returns-then-bad_form

@@ -1,11 +1,9 @@
-use Prim.Native.Nat.{◌-◌, ◌≤◌}
 use mathlib.Core.Path.{◌≡◌, sym, ◌∙◌}
 use borrow.Author.Tests.{lt-ltb, le-ltb, ne_eqb}
-use Rattle.laws.proofs.First.{from, fine, faulty_with, done, whole}
+use Rattle.laws.proofs.First.{fine, faulty_with, done, whole}
 use Rattle.table.specs.declared.Verdict.TheVariants.{Accepted, Refused}
 use Rattle.table.specs.Rows.{row_count}
-use Rattle.semantics.specs.Calls.{list_fault, list_of}
-use borrow.Author.Rules.{rules}
+use Rattle.semantics.specs.Calls.{list_of}
 use native.Mathlib.Omega.{arith}
 use Rattle.calls.proofs.list_verdict.Goals as goal
 

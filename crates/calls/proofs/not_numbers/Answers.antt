@@ -1,6 +1,5 @@
 use mathlib.Core.Path.{sym, ◌∙◌}
 use Rattle.declarations.specs.Program.{parameter_kinds, result_kinds}
-use borrow.Author.Rules.{rules}
 use Rattle.calls.proofs.not_numbers.Goals as goal
 
 pub returns-then-all_numbers : goal.returns-then-all_numbers

@@ -1,5 +1,5 @@
-use mathlib.Core.Path.{◌≡◌, sym, ◌∙◌}
-use lib.ListN.{length, length-map, get_or-eq_default}
+use mathlib.Core.Path.{◌≡◌, sym}
+use lib.ListN.{length, get_or-eq_default}
 use Rattle.declarations.specs.Program.{procedure_in}
 use borrow.Author.Rules.{rules}
 use native.Mathlib.Omega.{arith}

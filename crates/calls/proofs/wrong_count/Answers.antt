@@ -1,6 +1,5 @@
 use Rattle.declarations.specs.Program.{parameter_kinds}
 use Rattle.steps.proofs.Laws.{length-kinds}
-use borrow.Author.Rules.{rules}
 use Rattle.calls.proofs.wrong_count.Goals as goal
 
 pub returns : goal.returns

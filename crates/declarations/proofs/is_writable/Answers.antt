@@ -1,4 +1,3 @@
-use borrow.Author.Rules.{rules}
 use Rattle.declarations.specs.Program.{is_writable}
 use Rattle.declarations.proofs.is_writable.Goals as goal
 

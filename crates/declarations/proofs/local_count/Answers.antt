@@ -1,7 +1,6 @@
 use Rattle.declarations.specs.Program.{local_count}
 use mathlib.Core.Path.{refl}
 use native.Mathlib.Omega.{arith}
-use borrow.Author.Rules.{rules}
 use Rattle.declarations.proofs.local_count.Goals as goal
 
 pub returns-then-start-end : goal.returns-then-start-end

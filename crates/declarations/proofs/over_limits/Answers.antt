@@ -1,4 +1,3 @@
-use borrow.Author.Rules.{rules}
 use borrow.Author.Tests.{lt-ltb, le-ltb}
 use Rattle.declarations.specs.Program.{code_of}
 use Rattle.declarations.specs.code.Limits.{over_limits}

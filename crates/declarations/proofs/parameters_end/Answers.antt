@@ -1,11 +1,7 @@
 use Rattle.declarations.proofs.Laws.{parameter_yes, parameter_no}
-use Rattle.declarations.specs.Program.{parameters_end, is_parameter}
+use Rattle.declarations.specs.Program.{parameters_end}
 use Rattle.laws.proofs.Lists.{find-next, find-here, find_past}
-use Rattle.laws.specs.Lists.{find}
-use mathlib.Core.Bool.{not}
-use mathlib.Core.Path.{◌≡◌, refl, sym, ◌∙◌}
-use Prim.Native.Nat.{ℕ, ◌-◌}
-use borrow.Author.Rules.{rules}
+use mathlib.Core.Path.{refl, sym, ◌∙◌}
 use native.Mathlib.Omega.{arith}
 use Rattle.declarations.proofs.parameters_end.Goals as goal
 

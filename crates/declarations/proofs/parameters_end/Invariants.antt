@@ -1,12 +1,8 @@
-use Rattle.declarations.proofs.Laws.{parameter_yes, parameter_no}
-use Rattle.declarations.specs.Program.{parameters_end, is_parameter}
-use Rattle.laws.proofs.Lists.{find-next, find-here, find_past}
+use Rattle.declarations.specs.Program.{is_parameter}
 use Rattle.laws.specs.Lists.{find}
 use mathlib.Core.Bool.{not}
-use mathlib.Core.Path.{◌≡◌, refl, sym, ◌∙◌}
+use mathlib.Core.Path.{◌≡◌}
 use Prim.Native.Nat.{ℕ, ◌-◌}
-use borrow.Author.Rules.{rules}
-use native.Mathlib.Omega.{arith}
 use Rattle.declarations.proofs.parameters_end.Given as goal
 
 abbrev pub invariant-loop-i : goal.invariant-loop-i

@@ -1,6 +1,5 @@
 use mathlib.Core.Path.{refl}
 use Rattle.declarations.specs.Program.{row_kind}
-use borrow.Author.Rules.{rules}
 use Rattle.declarations.proofs.row_kind.Goals as goal
 
 pub returns : goal.returns

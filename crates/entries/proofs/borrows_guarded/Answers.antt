@@ -1,5 +1,4 @@
 use borrow.Author.Tests.{ne_eqb}
-use borrow.Author.Rules.{rules}
 use Rattle.declarations.specs.Program.{field_row}
 use Rattle.helpers.specs.Tables.{borrows_guarded}
 use Rattle.entries.proofs.borrows_guarded.Goals as goal

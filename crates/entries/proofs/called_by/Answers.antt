@@ -1,5 +1,4 @@
 use borrow.Author.Tests.{eq-eqb, ne_eqb}
-use borrow.Author.Rules.{rules}
 use Rattle.entries.specs.code.Entries.{called_by}
 use Rattle.entries.proofs.called_by.Goals as goal
 

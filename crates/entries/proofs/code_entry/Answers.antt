@@ -1,4 +1,3 @@
-use borrow.Author.Rules.{rules}
 use Rattle.entries.specs.code.Entries.{code_entry}
 use Rattle.entries.proofs.code_entry.Goals as goal
 

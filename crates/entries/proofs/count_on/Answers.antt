@@ -1,5 +1,4 @@
 use borrow.Author.Tests.{eq-eqb, ne_eqb}
-use borrow.Author.Rules.{rules}
 use Rattle.entries.proofs.count_on.Goals as goal
 
 pub returns-then-row-eq-PROCEDURE : goal.returns-then-row-eq-PROCEDURE

@@ -1,4 +1,3 @@
-use borrow.Author.Rules.{rules}
 use Rattle.entries.proofs.Laws.{entry_head, entry-none, entry-code}
 use Rattle.entries.proofs.entry_of.Goals as goal
 

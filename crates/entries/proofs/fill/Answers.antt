@@ -1,16 +1,13 @@
-use Prim.Native.Nat.{◌≤◌, ◌-◌}
+use Prim.Native.Nat.{◌≤◌}
 use mathlib.Core.Path.{◌≡◌, refl, sym, ap, ◌∙◌}
-use mathlib.Core.Logic.{⊎_elim}
 use native.Mathlib.Omega.{arith}
-use borrow.Author.Rules.{rules}
-use lib.ListN.{length, length-map, get_or-eq_default}
-use Rattle.laws.specs.Lists.{count}
+use lib.ListN.{length, get_or-eq_default}
 use Rattle.laws.proofs.Lists.{count-zero, count-few}
 use Rattle.table.specs.Format.{procedure_kind}
 use Rattle.table.specs.Rows.{row_count, is_kind}
 use Rattle.declarations.specs.Program.{type_in, procedure_in}
 use Rattle.operands.specs.Operands.{named_type}
-use Rattle.entries.specs.code.Entries.{entry_for, Filled}
+use Rattle.entries.specs.code.Entries.{entry_for}
 use Rattle.entries.proofs.Laws.{count_next, entry_looked, filled_none, filled_next}
 use Rattle.entries.proofs.fill.Goals as goal
 use Rattle.entries.proofs.fill.Goals.{else-above-lt-MAX_PROCEDURES, else-called-lt-MAX_PROCEDURES, else-q-lt-MAX_PROCEDURES, else-y-lt-MAX_TYPES, then-above-lt-MAX_PROCEDURES, then-called-lt-MAX_PROCEDURES, then-q-lt-MAX_PROCEDURES, then-y-lt-MAX_TYPES}

@@ -1,4 +1,3 @@
-use borrow.Author.Rules.{rules}
 use Rattle.declarations.specs.Program.{parameter_count}
 use Rattle.entries.specs.code.Entries.{head_entry}
 use Rattle.entries.proofs.head_entry.Goals as goal

@@ -1,4 +1,3 @@
-use borrow.Author.Rules.{rules}
 use Rattle.helpers.specs.Tables.{is_helper}
 use Rattle.entries.proofs.is_helper.Goals as goal
 

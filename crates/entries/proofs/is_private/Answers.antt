@@ -1,4 +1,3 @@
-use borrow.Author.Rules.{rules}
 use Rattle.helpers.specs.Tables.{is_private}
 use Rattle.entries.proofs.is_private.Goals as goal
 

@@ -1,5 +1,4 @@
 use borrow.Author.Tests.{lt-ltb, le-ltb}
-use borrow.Author.Rules.{rules}
 use Rattle.entries.specs.code.Entries.{kept}
 use Rattle.entries.proofs.keep.Goals as goal
 

@@ -1,9 +1,6 @@
-use Prim.Native.Nat.{◌≤◌, ◌-◌}
 use mathlib.Core.Path.{◌≡◌, refl, ◌∙◌}
 use native.Mathlib.Omega.{arith}
-use borrow.Author.Rules.{rules}
-use lib.ListN.{length}
-use Rattle.entries.proofs.Links.{Linking, linking_none, linking_next}
+use Rattle.entries.proofs.Links.{linking_none, linking_next}
 use Rattle.entries.proofs.link.Goals as goal
 
 pub loop-r-init : goal.loop-r-init

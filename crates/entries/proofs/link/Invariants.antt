@@ -1,10 +1,8 @@
 -- The invariant: the first r rows are linked.
 use Prim.Native.Nat.{◌≤◌, ◌-◌}
-use mathlib.Core.Path.{◌≡◌, refl, ◌∙◌}
-use native.Mathlib.Omega.{arith}
-use borrow.Author.Rules.{rules}
+use mathlib.Core.Path.{◌≡◌}
 use lib.ListN.{length}
-use Rattle.entries.proofs.Links.{Linking, linking_none, linking_next}
+use Rattle.entries.proofs.Links.{Linking}
 use Rattle.entries.proofs.link.Given as goal
 
 abbrev pub invariant-loop-r : goal.invariant-loop-r

@@ -1,5 +1,4 @@
 use native.Mathlib.Omega.{arith}
-use borrow.Author.Rules.{rules}
 use Rattle.entries.proofs.Links.{no_link, yes_link}
 use Rattle.entries.proofs.link_row.Goals as goal
 

@@ -1,7 +1,6 @@
-use mathlib.Core.Path.{◌≡◌, refl, sym, ◌∙◌}
+use mathlib.Core.Path.{◌≡◌, refl, sym}
 use native.Mathlib.Omega.{arith}
-use borrow.Author.Rules.{rules}
-use lib.ListN.{length, length-map, get_or-eq_default}
+use lib.ListN.{length, get_or-eq_default}
 use Rattle.declarations.specs.Program.{type_in}
 use Rattle.entries.proofs.Laws.{makes-not, makes_other, makes-is}
 use Rattle.entries.proofs.makes_mark.Goals as goal

@@ -1,8 +1,5 @@
-use Prim.Native.Nat.{◌≤◌}
 use mathlib.Core.Path.{◌≡◌, refl, sym, ◌∙◌}
 use native.Mathlib.Omega.{arith}
-use borrow.Author.Rules.{rules}
-use Rattle.entries.specs.code.Entries.{makes_some}
 use Rattle.entries.proofs.Laws.{makes_other, some-here, some_down, some-none}
 use Rattle.entries.proofs.makes_some.Goals as goal
 

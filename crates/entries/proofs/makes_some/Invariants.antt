@@ -1,10 +1,7 @@
 -- The invariant: no row from r on makes a mark.
 use Prim.Native.Nat.{◌≤◌}
-use mathlib.Core.Path.{◌≡◌, refl, sym, ◌∙◌}
-use native.Mathlib.Omega.{arith}
-use borrow.Author.Rules.{rules}
+use mathlib.Core.Path.{◌≡◌}
 use Rattle.entries.specs.code.Entries.{makes_some}
-use Rattle.entries.proofs.Laws.{makes_other, some-here, some_down, some-none}
 use Rattle.entries.proofs.makes_some.Given as goal
 
 abbrev pub invariant-loop-r : goal.invariant-loop-r

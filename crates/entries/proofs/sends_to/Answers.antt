@@ -1,5 +1,4 @@
 use mathlib.Core.Path.{sym, ◌∙◌}
-use borrow.Author.Rules.{rules}
 use Rattle.entries.proofs.Laws.{sends-call, sends_out, sends_back, sends_up, sends_none}
 use Rattle.entries.proofs.sends_to.Goals as goal
 

@@ -9,7 +9,6 @@ use Rattle.locals.specs.Locals.{locals_of}
 use Rattle.leaks.specs.Leaks.{leaks_of}
 use Rattle.judging.specs.Judging.{judge_of, in_order}
 use Rattle.judging.proofs.Laws.{refused-here, accepted-here, form_refused, form_accepted, formed, by_index, by-locals}
-use borrow.Author.Rules.{rules}
 use Rattle.judging.proofs.judge_table.Goals as goal
 
 pub returns-in-Refused : goal.returns-in-Refused

@@ -3,7 +3,6 @@ use mathlib.Core.Path.{sym, ◌∙◌}
 use Rattle.policy.specs.Policy.{rules_with}
 use Rattle.judging.proofs.Laws.{by_index}
 use Rattle.judging.proofs.Under.{under-refused, under_rules, without}
-use borrow.Author.Rules.{rules}
 use Rattle.judging.proofs.judge_under.Goals as goal
 
 pub returns-then-has-eq0 : goal.returns-then-has-eq0

@@ -1,5 +1,4 @@
 use borrow.Author.Tests.{ne_eqb}
-use borrow.Author.Rules.{rules}
 use Rattle.effects.specs.Effects.{effects, effect_of}
 use Rattle.leaks.specs.Leaks.{leak_in}
 use Rattle.leaks.proofs.fault_at.Goals as goal

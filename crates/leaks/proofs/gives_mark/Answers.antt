@@ -1,6 +1,5 @@
 use mathlib.Core.Path.{◌≡◌}
 use native.Mathlib.Omega.{arith}
-use borrow.Author.Rules.{rules}
 use Rattle.declarations.specs.Program.{parameter_kinds}
 use Rattle.helpers.specs.Tables.{is_helper}
 use Rattle.steps.proofs.Laws.{parameters-few}

@@ -1,4 +1,3 @@
-use borrow.Author.Rules.{rules}
 use Rattle.leaks.proofs.is_trusted.Goals as goal
 
 pub returns : goal.returns

@@ -1,10 +1,8 @@
-use Prim.Native.Nat.{ℕ, ◌+◌, ◌-◌, ◌/◌, ◌≤◌}
+use Prim.Native.Nat.{ℕ, ◌+◌, ◌/◌}
 use mathlib.Core.Path.{◌≡◌, sym, ◌∙◌}
-use mathlib.Core.Logic.{⊎_elim}
 use native.Mathlib.Omega.{arith}
-use borrow.Author.Rules.{rules}
-use lib.ListN.{length, length-map, get_or-eq_default}
-use Rattle.laws.proofs.First.{from, fine, faulty_with, done, whole}
+use lib.ListN.{length, get_or-eq_default}
+use Rattle.laws.proofs.First.{fine, faulty_with, done, whole}
 use Rattle.table.specs.declared.Verdict.TheVariants.{Accepted, Refused}
 use Rattle.declarations.specs.Program.{procedure_in, code_verdict}
 use Rattle.leaks.specs.Leaks.{leak_from}

@@ -1,16 +1,11 @@
 -- The invariant: no instruction before instruction i is faulty.
-use Prim.Native.Nat.{ℕ, ◌+◌, ◌-◌, ◌/◌, ◌≤◌}
-use mathlib.Core.Path.{◌≡◌, sym, ◌∙◌}
-use mathlib.Core.Logic.{⊎_elim}
-use native.Mathlib.Omega.{arith}
-use borrow.Author.Rules.{rules}
-use lib.ListN.{length, length-map, get_or-eq_default}
-use Rattle.laws.proofs.First.{from, fine, faulty_with, done, whole}
+use Prim.Native.Nat.{ℕ, ◌+◌, ◌-◌, ◌≤◌}
+use mathlib.Core.Path.{◌≡◌}
+use Rattle.laws.proofs.First.{from}
 use Rattle.table.specs.declared.Verdict.TheVariants.{Accepted, Refused}
-use Rattle.declarations.specs.Program.{procedure_in, code_verdict}
+use Rattle.declarations.specs.Program.{code_verdict}
 use Rattle.leaks.specs.Leaks.{leak_from}
 use Rattle.leaks.specs.code.Read.{marked_in}
-use Rattle.leaks.proofs.Laws.{fault_is}
 use Rattle.leaks.proofs.judge_code.Given as goal
 
 abbrev pub invariant-loop-i : goal.invariant-loop-i

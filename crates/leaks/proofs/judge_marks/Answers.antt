@@ -1,14 +1,11 @@
-use Prim.Native.Nat.{◌-◌, ◌≤◌}
 use mathlib.Core.Path.{◌≡◌, refl, sym, ◌∙◌}
-use mathlib.Core.Logic.{⊎_elim}
 use native.Mathlib.Omega.{arith}
-use borrow.Author.Rules.{rules}
-use lib.ListN.{length, get_or, length-map, get_or-eq_default}
+use lib.ListN.{length, get_or, get_or-eq_default}
 use Rattle.declarations.specs.Program.{code_of, procedure_in, code_pass}
 use Rattle.declarations.proofs.Laws.{pass_from, pass_end, pass_refused, pass_on, passes_past, passes_all, passes_at, passes-entry}
 use Rattle.sizes.proofs.Sizes.{part_between}
 use Rattle.leaks.specs.Leaks.{in_trusted}
-use Rattle.leaks.specs.code.Read.{read_fault, read_pass}
+use Rattle.leaks.specs.code.Read.{read_pass}
 use Rattle.leaks.proofs.Laws.{trusted_verdict, guest_verdict}
 use Rattle.leaks.proofs.judge_marks.Goals as goal
 use Rattle.leaks.proofs.judge_marks.Goals.{else-is_trusted, else-owner-lt-MAX_MODULES, then-is_trusted+in_default, then-owner-lt-MAX_MODULES}

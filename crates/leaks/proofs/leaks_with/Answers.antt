@@ -1,6 +1,4 @@
 use mathlib.Core.Path.{sym, ap, ◌∙◌}
-use borrow.Author.Rules.{rules}
-use borrow.Author.Tests.{not-true}
 use Rattle.table.specs.declared.index.Index.{Index}
 use Rattle.table.specs.Rows.{row_count}
 use Rattle.entries.specs.code.Entries.{makes_some}

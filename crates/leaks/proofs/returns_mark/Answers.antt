@@ -1,6 +1,4 @@
 use mathlib.Core.Path.{◌≡◌}
-use native.Mathlib.Omega.{arith}
-use borrow.Author.Rules.{rules}
 use Rattle.declarations.specs.Program.{result_kinds}
 use Rattle.helpers.specs.Tables.{is_private}
 use Rattle.leaks.proofs.returns_mark.Goals as goal

@@ -1,12 +1,8 @@
-use Prim.Native.Nat.{◌+◌, ◌-◌, ◌≤◌, min}
+use Prim.Native.Nat.{◌+◌, ◌-◌}
 use mathlib.Core.Path.{◌≡◌, sym, ◌∙◌}
-use mathlib.Core.Bool.{false}
 use native.Mathlib.Nat.{le_refl}
 use native.Mathlib.Omega.{arith}
-use borrow.Author.Rules.{rules}
-use Rattle.declarations.specs.Program.{kinds_of}
 use Rattle.effects.proofs.Laws.{kinds-none, kinds-before, kinds-whole}
-use Rattle.leaks.specs.Leaks.{some_marked}
 use Rattle.leaks.specs.code.Read.{marked_at}
 use Rattle.leaks.proofs.Laws.{some-none, some_first, some_next, some-later, row-marked}
 use Rattle.leaks.proofs.some_marked.Goals as goal

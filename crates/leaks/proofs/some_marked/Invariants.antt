@@ -1,15 +1,10 @@
 -- The invariant: j lies between the smaller bound and `to`, and none that the rows from j to before `to` declare is marked.
-use Prim.Native.Nat.{◌+◌, ◌-◌, ◌≤◌, min}
-use mathlib.Core.Path.{◌≡◌, sym, ◌∙◌}
+use Prim.Native.Nat.{◌≤◌, min}
+use mathlib.Core.Path.{◌≡◌}
 use mathlib.Core.Bool.{false}
-use native.Mathlib.Nat.{le_refl}
-use native.Mathlib.Omega.{arith}
-use borrow.Author.Rules.{rules}
 use Rattle.declarations.specs.Program.{kinds_of}
-use Rattle.effects.proofs.Laws.{kinds-none, kinds-before, kinds-whole}
 use Rattle.leaks.specs.Leaks.{some_marked}
 use Rattle.leaks.specs.code.Read.{marked_at}
-use Rattle.leaks.proofs.Laws.{some-none, some_first, some_next, some-later, row-marked}
 use Rattle.leaks.proofs.some_marked.Given as goal
 
 abbrev pub invariant-loop-j : goal.invariant-loop-j

@@ -1,11 +1,8 @@
 use Rattle.locals.specs.code.Sets.{those}
 use Rattle.locals.proofs.Sets.{those-none, those_more}
-use Rattle.locals.specs.code.Faults.{empty_at}
-use mathlib.Core.Logic.{⊎_elim, inl, inr}
+use mathlib.Core.Logic.{inl, inr}
 use mathlib.Core.Bool.{not}
-use Prim.Native.Nat.{ℕ, ◌≤◌, ◌-◌}
 use mathlib.Core.Path.{◌≡◌, ap, ◌∙◌}
-use borrow.Author.Rules.{rules}
 use native.Mathlib.Omega.{arith}
 use Rattle.locals.proofs.always_full.Goals as goal
 use Rattle.locals.proofs.always_full.Goals.{else-not-can_be_empty, then-not-can_be_empty}

@@ -1,13 +1,9 @@
 -- The invariant: the set has those of the locals below l that belong to it.
 use Rattle.locals.specs.code.Sets.{those}
-use Rattle.locals.proofs.Sets.{those-none, those_more}
 use Rattle.locals.specs.code.Faults.{empty_at}
-use mathlib.Core.Logic.{⊎_elim, inl, inr}
 use mathlib.Core.Bool.{not}
 use Prim.Native.Nat.{ℕ, ◌≤◌, ◌-◌}
-use mathlib.Core.Path.{◌≡◌, ap, ◌∙◌}
-use borrow.Author.Rules.{rules}
-use native.Mathlib.Omega.{arith}
+use mathlib.Core.Path.{◌≡◌}
 use Rattle.locals.proofs.always_full.Given as goal
 
 abbrev pub invariant-loop-l : goal.invariant-loop-l

@@ -3,7 +3,6 @@ use lib.ListN.{get_or-eq_default}
 use mathlib.Core.Bool.{false}
 use mathlib.Core.Path.{sym}
 use native.Mathlib.Omega.{arith}
-use borrow.Author.Rules.{rules}
 use Rattle.locals.proofs.can_be_full.Goals as goal
 
 pub overflow_mul-at-2 : goal.overflow_mul-at-2

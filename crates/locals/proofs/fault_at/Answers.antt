@@ -2,7 +2,6 @@ use Rattle.locals.proofs.Laws.{full-only}
 use Rattle.locals.specs.code.Faults.{fault_from}
 use borrow.Author.Tests.{ne_eqb}
 use mathlib.Core.Path.{sym, ◌∙◌}
-use borrow.Author.Rules.{rules}
 use Rattle.locals.proofs.fault_at.Goals as goal
 
 pub returns-then-leaves_empty : goal.returns-then-leaves_empty

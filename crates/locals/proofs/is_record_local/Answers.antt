@@ -1,6 +1,5 @@
 use mathlib.Core.Path.{ap, ◌∙◌}
 use Rattle.declarations.specs.Program.{is_record, row_kind, local_kind}
-use borrow.Author.Rules.{rules}
 use Rattle.locals.proofs.is_record_local.Goals as goal
 
 pub returns : goal.returns

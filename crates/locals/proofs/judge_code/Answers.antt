@@ -2,10 +2,9 @@ use Rattle.locals.specs.code.Faults.{fault_from}
 use Rattle.declarations.specs.Program.{code_verdict}
 use Rattle.table.specs.Rows.{row_at, row_count}
 use Rattle.table.specs.declared.Verdict.TheVariants.{Accepted, Refused}
-use Rattle.laws.proofs.First.{from, fine, faulty_with, done, whole}
-use Prim.Native.Nat.{ℕ, ◌+◌, ◌-◌, ◌≤◌}
+use Rattle.laws.proofs.First.{fine, faulty_with, done, whole}
+use Prim.Native.Nat.{ℕ, ◌+◌}
 use mathlib.Core.Path.{◌≡◌, sym, ◌∙◌}
-use borrow.Author.Rules.{rules}
 use native.Mathlib.Omega.{arith}
 use Rattle.locals.proofs.judge_code.Goals as goal
 

@@ -1,13 +1,11 @@
 -- The invariant: no instruction before instruction i is faulty.
 use Rattle.locals.specs.code.Faults.{fault_from}
 use Rattle.declarations.specs.Program.{code_verdict}
-use Rattle.table.specs.Rows.{row_at, row_count}
+use Rattle.table.specs.Rows.{row_at}
 use Rattle.table.specs.declared.Verdict.TheVariants.{Accepted, Refused}
-use Rattle.laws.proofs.First.{from, fine, faulty_with, done, whole}
+use Rattle.laws.proofs.First.{from}
 use Prim.Native.Nat.{ℕ, ◌+◌, ◌-◌, ◌≤◌}
-use mathlib.Core.Path.{◌≡◌, sym, ◌∙◌}
-use borrow.Author.Rules.{rules}
-use native.Mathlib.Omega.{arith}
+use mathlib.Core.Path.{◌≡◌}
 use Rattle.locals.proofs.judge_code.Given as goal
 
 abbrev pub invariant-loop-i : goal.invariant-loop-i

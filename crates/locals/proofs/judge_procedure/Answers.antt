@@ -6,7 +6,6 @@ use Rattle.declarations.specs.Program.{code_verdict, local_count}
 use Rattle.declarations.proofs.Laws.{limits-held, limited_in, limited_out}
 use Rattle.table.specs.Rows.{row_count}
 use native.Mathlib.Omega.{arith}
-use borrow.Author.Rules.{rules}
 use Rattle.locals.proofs.judge_procedure.Goals as goal
 
 pub returns-then-over_limits : goal.returns-then-over_limits

@@ -1,9 +1,8 @@
 -- What the set says of local l is what the nodes say of it.
 use Rattle.locals.proofs.Sets.{contains-those}
 use borrow.Author.Tests.{lt-ltb, le-ltb}
-use mathlib.Core.Bool.{not, not-not}
-use mathlib.Core.Path.{sym, ap, ◌∙◌}
-use borrow.Author.Rules.{rules}
+use mathlib.Core.Bool.{not-not}
+use mathlib.Core.Path.{sym, ◌∙◌}
 use Rattle.locals.proofs.leaves_empty.Goals as goal
 
 pub returns-then-count-l : goal.returns-then-count-l

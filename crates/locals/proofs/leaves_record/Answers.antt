@@ -1,5 +1,4 @@
 use borrow.Author.Tests.{lt-ltb, le-ltb}
-use borrow.Author.Rules.{rules}
 use Rattle.locals.proofs.leaves_record.Goals as goal
 
 pub returns-then-count-l : goal.returns-then-count-l

@@ -1,9 +1,5 @@
-use Rattle.locals.specs.code.Faults.{some_record}
 use Rattle.locals.proofs.Laws.{record_none, record_past, record_found}
-use mathlib.Core.Bool.{false}
-use Prim.Native.Nat.{◌-◌, ◌≤◌}
 use mathlib.Core.Path.{◌≡◌, sym, ◌∙◌}
-use borrow.Author.Rules.{rules}
 use native.Mathlib.Omega.{arith}
 use Rattle.locals.proofs.leaves_some.Goals as goal
 

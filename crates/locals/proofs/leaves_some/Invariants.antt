@@ -1,11 +1,8 @@
 -- The invariant: no walk leaves a record in a local below l.
 use Rattle.locals.specs.code.Faults.{some_record}
-use Rattle.locals.proofs.Laws.{record_none, record_past, record_found}
 use mathlib.Core.Bool.{false}
 use Prim.Native.Nat.{◌-◌, ◌≤◌}
-use mathlib.Core.Path.{◌≡◌, sym, ◌∙◌}
-use borrow.Author.Rules.{rules}
-use native.Mathlib.Omega.{arith}
+use mathlib.Core.Path.{◌≡◌}
 use Rattle.locals.proofs.leaves_some.Given as goal
 
 abbrev pub invariant-loop-l : goal.invariant-loop-l

@@ -1,14 +1,11 @@
 -- The invariant: the procedures before procedure p are accepted.
 use Rattle.locals.specs.Locals.{local_fault}
 use Rattle.locals.specs.code.Within.{locals_within}
-use Rattle.declarations.proofs.Laws.{pass_from, pass_start, pass_end, pass_refused, pass_on, passes_past, passes_all, passes_at, passes-entry, on_part}
-use Rattle.declarations.specs.Program.{code_of, procedure_in}
+use Rattle.declarations.proofs.Laws.{pass_from}
 use Rattle.declarations.specs.code.Limits.{limited}
-use lib.ListN.{length, length-map}
+use lib.ListN.{length}
 use Prim.Native.Nat.{◌-◌, ◌≤◌}
-use mathlib.Core.Path.{◌≡◌, refl, sym, ◌∙◌}
-use borrow.Author.Rules.{rules}
-use native.Mathlib.Omega.{arith}
+use mathlib.Core.Path.{◌≡◌}
 use Rattle.locals.proofs.locals_with.Given as goal
 
 abbrev pub invariant-loop-p : goal.invariant-loop-p

@@ -1,6 +1,5 @@
 use Rattle.declarations.specs.Program.{parameter_count}
 use native.Mathlib.Omega.{arith}
-use borrow.Author.Rules.{rules}
 use Rattle.locals.proofs.parameter_count.Goals as goal
 
 pub returns-then-start-end : goal.returns-then-start-end

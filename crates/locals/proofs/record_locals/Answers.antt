@@ -1,10 +1,7 @@
-use Rattle.declarations.specs.Program.{is_record, local_kind}
 use Rattle.locals.specs.code.Sets.{those}
 use Rattle.locals.proofs.Sets.{those-none, those_more}
-use mathlib.Core.Logic.{⊎_elim, inl, inr}
-use Prim.Native.Nat.{ℕ, ◌≤◌, ◌-◌}
+use mathlib.Core.Logic.{inl, inr}
 use mathlib.Core.Path.{◌≡◌, ap, ◌∙◌}
-use borrow.Author.Rules.{rules}
 use native.Mathlib.Omega.{arith}
 use Rattle.locals.proofs.record_locals.Goals as goal
 use Rattle.locals.proofs.record_locals.Goals.{else-is_record_local, then-is_record_local}

@@ -1,12 +1,8 @@
 -- The invariant: the set has those of the locals below l that belong to it.
 use Rattle.declarations.specs.Program.{is_record, local_kind}
 use Rattle.locals.specs.code.Sets.{those}
-use Rattle.locals.proofs.Sets.{those-none, those_more}
-use mathlib.Core.Logic.{⊎_elim, inl, inr}
 use Prim.Native.Nat.{ℕ, ◌≤◌, ◌-◌}
-use mathlib.Core.Path.{◌≡◌, ap, ◌∙◌}
-use borrow.Author.Rules.{rules}
-use native.Mathlib.Omega.{arith}
+use mathlib.Core.Path.{◌≡◌}
 use Rattle.locals.proofs.record_locals.Given as goal
 
 abbrev pub invariant-loop-l : goal.invariant-loop-l

@@ -1,13 +1,11 @@
-use Prim.Native.Nat.{ℕ, ◌+◌, ◌-◌, ◌*◌, ◌<◌, ◌≤◌}
+use Prim.Native.Nat.{ℕ, ◌*◌, ◌≤◌}
 use mathlib.Core.Path.{◌≡◌, refl, sym, ap, ◌∙◌}
 use mathlib.Core.Bool.{false}
 use native.Mathlib.Omega.{arith}
-use borrow.Author.Rules.{rules}
 use lib.ListN.{length, replicate}
-use Rattle.reach.specs.Reach.{count_true}
 use Rattle.reach.proofs.Laws.{count-le}
 use Rattle.table.specs.Rows.{row_count}
-use Rattle.locals.proofs.Laws.{Spreading, Waiting, Followed, start-below, after-below, local-start, local-on, local_still, local_rests, local-tail, local-queued, local-next, local-found}
+use Rattle.locals.proofs.Laws.{Waiting, Followed, start-below, after-below, local-start, local-on, local_still, local_rests, local-tail, local-queued, local-next, local-found}
 use Rattle.locals.proofs.spread_local.Goals as goal
 
 pub loop-y-init : goal.loop-y-init

@@ -1,14 +1,10 @@
 -- The invariant: the search from the status at the start follows local l at instruction i with status x.
-use Prim.Native.Nat.{ℕ, ◌+◌, ◌-◌, ◌*◌, ◌<◌, ◌≤◌}
-use mathlib.Core.Path.{◌≡◌, refl, sym, ap, ◌∙◌}
-use mathlib.Core.Bool.{false}
-use native.Mathlib.Omega.{arith}
-use borrow.Author.Rules.{rules}
-use lib.ListN.{length, replicate}
+use Prim.Native.Nat.{◌+◌, ◌-◌, ◌*◌, ◌<◌}
+use mathlib.Core.Path.{◌≡◌}
+use lib.ListN.{length}
 use Rattle.reach.specs.Reach.{count_true}
-use Rattle.reach.proofs.Laws.{count-le}
 use Rattle.table.specs.Rows.{row_count}
-use Rattle.locals.proofs.Laws.{Spreading, Waiting, Followed, start-below, after-below, local-start, local-on, local_still, local_rests, local-tail, local-queued, local-next, local-found}
+use Rattle.locals.proofs.Laws.{Spreading}
 use Rattle.locals.proofs.spread_local.Given as goal
 
 abbrev pub invariant-loop-y : goal.invariant-loop-y

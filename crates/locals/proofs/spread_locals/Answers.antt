@@ -2,9 +2,9 @@ use Rattle.locals.proofs.Parts.{part_fits, length_part, parts_next}
 use Rattle.locals.proofs.Laws.{nodes_fit}
 use Rattle.locals.specs.Locals.{nodes_of}
 use Rattle.table.specs.Rows.{row_count}
-use lib.ListN.{length, take, drop}
-use Prim.Native.Nat.{ℕ, ◌+◌, ◌-◌, ◌*◌, ◌<◌, ◌≤◌}
-use mathlib.Core.Path.{◌≡◌, refl, ◌∙◌}
+use lib.ListN.{length}
+use Prim.Native.Nat.{◌+◌, ◌*◌, ◌≤◌}
+use mathlib.Core.Path.{refl, ◌∙◌}
 use native.Mathlib.Omega.{arith}
 use Rattle.locals.proofs.spread_locals.Goals as goal
 

@@ -1,12 +1,9 @@
 -- The invariant: the parts of the locals below l have what walks leave in them.
-use Rattle.locals.proofs.Parts.{part_fits, length_part, parts_next}
-use Rattle.locals.proofs.Laws.{nodes_fit}
 use Rattle.locals.specs.Locals.{nodes_of}
 use Rattle.table.specs.Rows.{row_count}
 use lib.ListN.{length, take, drop}
-use Prim.Native.Nat.{ℕ, ◌+◌, ◌-◌, ◌*◌, ◌<◌, ◌≤◌}
-use mathlib.Core.Path.{◌≡◌, refl, ◌∙◌}
-use native.Mathlib.Omega.{arith}
+use Prim.Native.Nat.{ℕ, ◌-◌, ◌*◌, ◌<◌}
+use mathlib.Core.Path.{◌≡◌}
 use Rattle.locals.proofs.spread_locals.Given as goal
 
 abbrev pub invariant-loop-l : goal.invariant-loop-l

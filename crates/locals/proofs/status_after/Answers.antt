@@ -1,5 +1,4 @@
 use borrow.Author.Tests.{eq-eqb, ne_eqb}
-use borrow.Author.Rules.{rules}
 use Rattle.flow.specs.Places.{status_after}
 use Rattle.locals.proofs.status_after.Goals as goal
 

@@ -1,6 +1,4 @@
 use mathlib.Core.Path.{◌≡◌, refl, sym, ◌∙◌}
-use mathlib.Core.Logic.{⊎_elim}
-use borrow.Author.Rules.{rules}
 use lib.ListN.{length}
 use Rattle.reach.specs.code.Search.{after, visit_all}
 use Rattle.marks.proofs.Laws.{gone, gone-some, gone-none, copied, copied_some, copied_none, code-visits}

@@ -1,5 +1,4 @@
 use native.Mathlib.Omega.{arith}
-use borrow.Author.Rules.{rules}
 use Rattle.marks.proofs.Laws.{head_given, head_past, head_result}
 use Rattle.marks.proofs.expand_head.Goals as goal
 

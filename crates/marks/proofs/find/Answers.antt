@@ -3,7 +3,6 @@ use Prim.Native.Nat.{ℕ, zero, suc, ◌/◌}
 use mathlib.Core.Path.{◌≡◌, refl, ap, ◌∙◌}
 use mathlib.Core.List.{List}
 use native.Mathlib.Omega.{arith}
-use borrow.Author.Rules.{rules}
 use lib.ListN.{length, get_or, replicate, length-replicate}
 use Rattle.sizes.proofs.Inside as Inside
 use Rattle.helpers.proofs.Tied.{layout_of}

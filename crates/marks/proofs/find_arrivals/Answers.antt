@@ -1,12 +1,9 @@
-use Prim.Native.Nat.{◌-◌, ◌<◌, ◌≤◌}
-use mathlib.Core.Path.{◌≡◌, refl, ◌∙◌}
+use Prim.Native.Nat.{◌<◌, ◌≤◌}
+use mathlib.Core.Path.{refl, ◌∙◌}
 use native.Mathlib.Omega.{arith}
-use borrow.Author.Rules.{rules}
 use lib.ListN.{length, get_or}
 use Rattle.table.specs.Rows.{row_count}
-use Rattle.helpers.specs.Rounds.{up_to}
-use Rattle.marks.specs.code.Search.{rows_after, first_at}
-use Rattle.marks.proofs.Laws.{Stands, stands_first, stands_tail, stands_room, stands_queued, stands_next, stands_done}
+use Rattle.marks.proofs.Laws.{stands_first, stands_tail, stands_room, stands_queued, stands_next, stands_done}
 use Rattle.marks.proofs.find_arrivals.Goals as goal
 
 pub loop-head-init : goal.loop-head-init

@@ -1,13 +1,11 @@
 -- The invariant: the search from the first instructions stands so, with no row followed.
-use Prim.Native.Nat.{◌-◌, ◌<◌, ◌≤◌}
-use mathlib.Core.Path.{◌≡◌, refl, ◌∙◌}
-use native.Mathlib.Omega.{arith}
-use borrow.Author.Rules.{rules}
-use lib.ListN.{length, get_or}
+use Prim.Native.Nat.{◌-◌}
+use mathlib.Core.Path.{◌≡◌}
+use lib.ListN.{length}
 use Rattle.table.specs.Rows.{row_count}
 use Rattle.helpers.specs.Rounds.{up_to}
 use Rattle.marks.specs.code.Search.{rows_after, first_at}
-use Rattle.marks.proofs.Laws.{Stands, stands_first, stands_tail, stands_room, stands_queued, stands_next, stands_done}
+use Rattle.marks.proofs.Laws.{Stands}
 use Rattle.marks.proofs.find_arrivals.Given as goal
 
 abbrev pub invariant-loop-head : goal.invariant-loop-head

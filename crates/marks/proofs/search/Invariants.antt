@@ -1,13 +1,11 @@
 -- The invariant: from where the search begins, whatever it begins from, it comes to stand so, with no node followed.
-use Prim.Native.Nat.{ℕ, ◌-◌, ◌*◌, ◌/◌, ◌<◌, ◌≤◌}
-use mathlib.Core.Path.{◌≡◌, refl, sym, ◌∙◌}
+use Prim.Native.Nat.{ℕ, ◌-◌, ◌*◌}
+use mathlib.Core.Path.{◌≡◌}
 use mathlib.Core.List.{List}
-use native.Mathlib.Omega.{arith}
-use lib.ListN.{length, get_or}
+use lib.ListN.{length}
 use Rattle.table.specs.Rows.{row_count}
-use Rattle.helpers.specs.Rounds.{up_to}
-use Rattle.marks.specs.code.Search.{edges, made_at}
-use Rattle.marks.proofs.Laws.{Stands, stands_first, stands_tail, stands_room, stands_queued, stands_next, stands_done}
+use Rattle.marks.specs.code.Search.{edges}
+use Rattle.marks.proofs.Laws.{Stands}
 use Rattle.marks.proofs.search.Given as goal
 
 abbrev pub invariant-loop-head : goal.invariant-loop-head

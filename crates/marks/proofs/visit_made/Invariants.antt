@@ -1,15 +1,11 @@
 -- The invariant: what is left to visit is where marks are made at the rows above row r.
-use Prim.Native.Nat.{◌≤◌, ◌-◌}
-use mathlib.Core.Path.{◌≡◌, refl, sym, ◌∙◌}
-use native.Mathlib.Omega.{arith}
-use borrow.Author.Rules.{rules}
+use Prim.Native.Nat.{◌≤◌}
+use mathlib.Core.Path.{◌≡◌}
 use lib.ListN.{length}
 use Rattle.reach.specs.code.Search.{after, visit_all}
 use Rattle.table.specs.Rows.{row_count}
 use Rattle.helpers.specs.Rounds.{up_to}
-use Rattle.entries.proofs.Laws.{makes_other}
 use Rattle.marks.specs.code.Search.{made_at}
-use Rattle.marks.proofs.Laws.{up_next, up_end, made_some, made_none, made_missed}
 use Rattle.marks.proofs.visit_made.Given as goal
 
 abbrev pub invariant-loop-r : goal.invariant-loop-r

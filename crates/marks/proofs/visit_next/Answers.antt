@@ -1,7 +1,6 @@
 use Prim.Native.Nat.{◌+◌}
 use native.Mathlib.Omega.{arith}
-use borrow.Author.Rules.{rules}
-use Rattle.marks.proofs.Laws.{node_small, next-none, next-branch, next_both, next_one}
+use Rattle.marks.proofs.Laws.{node_small, next-none, next-branch}
 use Rattle.marks.proofs.visit_next.Goals as goal
 
 pub returns-then-row-eq-RET : goal.returns-then-row-eq-RET
@@ -21,4 +20,3 @@ overflow_mul-width c = let a = c.args in omega (arith, node_small a.width (a.at 
 
 pub overflow_add-width : goal.overflow_add-width
 overflow_add-width c = let a = c.args in omega (arith, node_small a.width (a.at + 1) (omega arith) (omega arith))
-

@@ -1,11 +1,8 @@
-use Prim.Native.Nat.{◌≤◌, ◌-◌}
-use mathlib.Core.Path.{◌≡◌, refl, sym, ◌∙◌}
-use mathlib.Core.Logic.{⊎_elim}
+use Prim.Native.Nat.{◌-◌}
+use mathlib.Core.Path.{refl, sym}
 use native.Mathlib.Omega.{arith}
 use borrow.Author.Rules.{rules}
-use lib.ListN.{length}
-use Rattle.reach.specs.code.Search.{after, visit_all}
-use Rattle.marks.specs.code.Search.{result_edges, pushed_at}
+use Rattle.reach.specs.code.Search.{after}
 use Rattle.marks.proofs.Laws.{pushed_yes, pushed_no, results_past, results_next, results_end}
 use Rattle.marks.proofs.visit_results.Goals as goal
 

@@ -1,13 +1,9 @@
 -- The invariant: what is left to visit is the rest of the chain.
-use Prim.Native.Nat.{◌≤◌, ◌-◌}
-use mathlib.Core.Path.{◌≡◌, refl, sym, ◌∙◌}
-use mathlib.Core.Logic.{⊎_elim}
-use native.Mathlib.Omega.{arith}
-use borrow.Author.Rules.{rules}
+use Prim.Native.Nat.{◌≤◌}
+use mathlib.Core.Path.{◌≡◌}
 use lib.ListN.{length}
 use Rattle.reach.specs.code.Search.{after, visit_all}
 use Rattle.marks.specs.code.Search.{result_edges}
-use Rattle.marks.proofs.Laws.{pushed_yes, pushed_no, results_past, results_next, results_end}
 use Rattle.marks.proofs.visit_results.Given as goal
 
 abbrev pub invariant-loop-at : goal.invariant-loop-at

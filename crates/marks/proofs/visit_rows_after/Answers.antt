@@ -1,5 +1,4 @@
 use native.Mathlib.Omega.{arith}
-use borrow.Author.Rules.{rules}
 use Rattle.marks.proofs.Laws.{after-some, after_none}
 use Rattle.marks.proofs.visit_rows_after.Goals as goal
 

@@ -1,7 +1,5 @@
-use mathlib.Core.Logic.{⊎_elim}
 use native.Mathlib.Omega.{arith}
 use borrow.Author.Tests.{ne_eqb}
-use borrow.Author.Rules.{rules}
 use Rattle.marks.proofs.Laws.{sent-local, sent-kept, sent-none, sent-some}
 use Rattle.marks.proofs.visit_sent.Goals as goal
 use Rattle.marks.proofs.visit_sent.Goals.{else-row-eq-CALL, then-row-eq-CALL}

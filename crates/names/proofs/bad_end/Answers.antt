@@ -1,5 +1,4 @@
 use borrow.Author.Tests.{eq-eqb, ne_eqb, le-leb, lt-leb}
-use borrow.Author.Rules.{rules}
 use Rattle.names.specs.Names.{bad_end}
 use Rattle.names.proofs.bad_end.Goals as goal
 

@@ -1,6 +1,5 @@
 use native.Mathlib.Nat.{add_comm}
 use borrow.Author.Tests.{eq-eqb, ne_eqb}
-use borrow.Author.Rules.{rules}
 use Rattle.names.specs.Names.{not_lower}
 use Rattle.names.proofs.Laws.{leb_minus}
 use Rattle.names.proofs.bad_field.Goals as goal

@@ -1,5 +1,4 @@
 use borrow.Author.Tests.{le-leb, lt-leb}
-use borrow.Author.Rules.{rules}
 use Rattle.declarations.specs.Program.{field_count}
 use Rattle.names.proofs.Laws.{leb_minus}
 use Rattle.names.proofs.bad_field_number.Goals as goal

@@ -1,5 +1,4 @@
 use borrow.Author.Tests.{eq-eqb, ne_eqb}
-use borrow.Author.Rules.{rules}
 use Rattle.names.specs.Names.{no_such_name}
 use Rattle.names.proofs.bad_name.Goals as goal
 

@@ -1,6 +1,5 @@
 use mathlib.Core.Path.{refl}
 use native.Mathlib.Omega.{arith}
-use borrow.Author.Rules.{rules}
 use Rattle.laws.specs.Lists.{tabulate}
 use Rattle.declarations.specs.Program.{local_count, code_length}
 use Rattle.names.specs.Names.{names, missing, nothing, local_number, field_number, type_number, procedure_number, target}

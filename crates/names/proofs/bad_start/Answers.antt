@@ -1,5 +1,4 @@
 use borrow.Author.Tests.{eq-eqb, ne_eqb}
-use borrow.Author.Rules.{rules}
 use Rattle.names.proofs.bad_start.Goals as goal
 
 pub returns-then-row-eq-PROCEDURE : goal.returns-then-row-eq-PROCEDURE

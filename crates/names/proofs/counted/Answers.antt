@@ -1,5 +1,4 @@
 use borrow.Author.Tests.{eq-eqb, ne_eqb}
-use borrow.Author.Rules.{rules}
 use Rattle.names.proofs.counted.Goals as goal
 
 pub returns-then-kind-of : goal.returns-then-kind-of

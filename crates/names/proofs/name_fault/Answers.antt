@@ -1,5 +1,4 @@
 use mathlib.Core.Path.{sym, ◌∙◌}
-use borrow.Author.Rules.{rules}
 use Rattle.names.specs.Names.{name_fault}
 use Rattle.names.proofs.name_fault.Goals as goal
 

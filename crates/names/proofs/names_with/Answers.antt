@@ -1,12 +1,10 @@
-use Prim.Native.Nat.{◌≤◌, ◌-◌, ◌/◌}
-use mathlib.Core.Logic.{⊎_elim}
+use Prim.Native.Nat.{◌/◌}
 use mathlib.Core.Path.{◌≡◌, refl, sym, ◌∙◌}
 use native.Mathlib.Omega.{arith}
-use borrow.Author.Rules.{rules}
 use lib.Dec.{eqb}
-use lib.ListN.{length, length-map, get_or-eq_default}
+use lib.ListN.{length, get_or-eq_default}
 use Rattle.laws.specs.Lists.{count, hits}
-use Rattle.laws.proofs.First.{from, fine, faulty_with, done, whole}
+use Rattle.laws.proofs.First.{fine, faulty_with, done, whole}
 use Rattle.laws.proofs.Lists.{count-few}
 use Rattle.table.specs.declared.Verdict.TheVariants.{Accepted, Refused}
 use Rattle.table.specs.Format.{type_kind, procedure_kind}

@@ -1,20 +1,13 @@
 -- The invariant: y types and p procedures begin above row i, own is procedure p - 1, and no row above i has a fault.
-use Prim.Native.Nat.{◌≤◌, ◌-◌, ◌/◌}
-use mathlib.Core.Logic.{⊎_elim}
-use mathlib.Core.Path.{◌≡◌, refl, sym, ◌∙◌}
-use native.Mathlib.Omega.{arith}
-use borrow.Author.Rules.{rules}
-use lib.Dec.{eqb}
-use lib.ListN.{length, length-map, get_or-eq_default}
-use Rattle.laws.specs.Lists.{count, hits}
-use Rattle.laws.proofs.First.{from, fine, faulty_with, done, whole}
-use Rattle.laws.proofs.Lists.{count-few}
+use Prim.Native.Nat.{◌≤◌, ◌-◌}
+use mathlib.Core.Path.{◌≡◌}
+use Rattle.laws.specs.Lists.{count}
+use Rattle.laws.proofs.First.{from}
 use Rattle.table.specs.declared.Verdict.TheVariants.{Accepted, Refused}
 use Rattle.table.specs.Format.{type_kind, procedure_kind}
 use Rattle.table.specs.Rows.{is_kind}
-use Rattle.declarations.specs.Program.{type_in, procedure_in}
+use Rattle.declarations.specs.Program.{procedure_in}
 use Rattle.names.specs.Names.{names_with, fault_at}
-use Rattle.names.proofs.Laws.{count_next, own-next, fault_here}
 use Rattle.names.proofs.names_with.Given as goal
 
 abbrev pub invariant-loop-i : goal.invariant-loop-i

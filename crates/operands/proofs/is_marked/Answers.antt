@@ -1,4 +1,3 @@
-use borrow.Author.Rules.{rules}
 use Rattle.operands.proofs.is_marked.Goals as goal
 
 pub returns-then-j-marks : goal.returns-then-j-marks

@@ -1,11 +1,8 @@
-use Prim.Native.Nat.{◌-◌, ◌≤◌}
 use mathlib.Core.Path.{◌≡◌, sym, ap, ◌∙◌}
-use mathlib.Core.Bool.{false}
-use borrow.Author.Rules.{rules}
 use native.Mathlib.Omega.{arith}
 use Rattle.table.specs.declared.Row.{Row}
 use Rattle.table.specs.Rows.{row_at, row_count}
-use Rattle.declarations.specs.Program.{is_target, target_below, jumps_to}
+use Rattle.declarations.specs.Program.{is_target, jumps_to}
 use Rattle.operands.proofs.Laws.{target_none, target-next, target_found}
 use Rattle.operands.proofs.is_target.Goals as goal
 

@@ -1,12 +1,10 @@
-use Prim.Native.Nat.{ℕ, ◌≤◌, ◌-◌, ◌/◌, ◌+◌}
+use Prim.Native.Nat.{ℕ, ◌/◌, ◌+◌}
 use mathlib.Core.Path.{◌≡◌, refl, sym, ap, ◌∙◌}
 use mathlib.Core.Bool.{cond}
-use mathlib.Core.Logic.{⊎_elim}
 use mathlib.Core.List.{[]}
 use native.Mathlib.Omega.{arith}
-use borrow.Author.Rules.{rules}
-use lib.ListN.{length, length-map, get_or-eq_default}
-use Rattle.laws.proofs.First.{from, fine, faulty_with, done, whole}
+use lib.ListN.{length, get_or-eq_default}
+use Rattle.laws.proofs.First.{fine, faulty_with, done, whole}
 use Rattle.table.specs.declared.Verdict.TheVariants.{Accepted, Refused}
 use Rattle.declarations.specs.Program.{type_in, procedure_in, code_verdict}
 use Rattle.effects.specs.Kinds.{view, good, top_first}

@@ -1,4 +1,3 @@
-use borrow.Author.Rules.{rules}
 use Rattle.table.specs.Format.{max_instructions}
 use Rattle.operands.proofs.Laws.{told_marks}
 use Rattle.operands.proofs.judge_procedure.Goals as goal

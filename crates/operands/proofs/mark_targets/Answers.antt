@@ -1,10 +1,6 @@
 use Rattle.table.specs.Rows.{row_count}
 use Rattle.operands.proofs.Laws.{marks_none, marks_length, mark_other, mark_jump, no_jump, far_jump}
-use Rattle.declarations.specs.Program.{target_marks}
-use mathlib.Core.Logic.{⊎_elim}
 use mathlib.Core.Path.{◌≡◌, refl, sym, ◌∙◌}
-use Prim.Native.Nat.{◌≤◌, ◌-◌}
-use borrow.Author.Rules.{rules}
 use native.Mathlib.Omega.{arith}
 use Rattle.operands.proofs.mark_targets.Goals as goal
 use Rattle.operands.proofs.mark_targets.Goals.{else-is_jump, then-is_jump+else-b-marks, then-is_jump+then-b-marks}

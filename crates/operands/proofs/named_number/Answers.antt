@@ -1,5 +1,4 @@
 use borrow.Author.Tests.{eq-eqb, ne_eqb}
-use borrow.Author.Rules.{rules}
 use Rattle.operands.proofs.named_number.Goals as goal
 
 pub returns-then-opcode-eq-BORROW_FLD : goal.returns-then-opcode-eq-BORROW_FLD

@@ -1,12 +1,9 @@
 -- The invariant: no procedure before procedure p is refused.
 use Prim.Native.Nat.{ℕ, ◌≤◌, ◌-◌}
-use mathlib.Core.Path.{◌≡◌, sym, ◌∙◌}
-use native.Mathlib.Omega.{arith}
-use borrow.Author.Rules.{rules}
-use lib.ListN.{length, length-map}
+use mathlib.Core.Path.{◌≡◌}
 use Rattle.table.specs.declared.index.ProcedureEntry.{ProcedureEntry}
-use Rattle.declarations.specs.Program.{code_of, procedure_in}
-use Rattle.declarations.proofs.Laws.{pass_from, verdict_of, pass_start, pass_end, pass_refused, pass_on, passes_past, passes_all, passes_at, passes-entry}
+use Rattle.declarations.specs.Program.{code_of}
+use Rattle.declarations.proofs.Laws.{pass_from}
 use Rattle.policy.specs.code.Grid.{forbidden_in, calls_in}
 use Rattle.policy.proofs.calls_verdict.Given as goal
 

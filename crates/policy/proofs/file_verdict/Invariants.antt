@@ -1,12 +1,7 @@
 -- The invariant: no row before row i is malformed.
-use Prim.Native.Nat.{◌≤◌, ◌-◌, ◌/◌}
-use mathlib.Core.Path.{◌≡◌, sym, ◌∙◌}
-use mathlib.Core.Bool.{or-true}
-use native.Mathlib.Omega.{arith}
-use borrow.Author.Rules.{rules}
-use borrow.Author.Tests.{lt-ltb, le-ltb, eq-eqb, ne_eqb}
-use lib.ListN.{length}
-use Rattle.laws.proofs.First.{from, fine, faulty_with, done, whole}
+use Prim.Native.Nat.{◌≤◌, ◌-◌}
+use mathlib.Core.Path.{◌≡◌}
+use Rattle.laws.proofs.First.{from}
 use Rattle.table.specs.declared.Verdict.TheVariants.{Accepted, Refused}
 use Rattle.policy.specs.Policy.{rule_fault, file_of}
 use Rattle.policy.proofs.file_verdict.Given as goal

@@ -1,11 +1,9 @@
-use Prim.Native.Nat.{ℕ, ◌+◌, ◌-◌, ◌/◌, ◌≤◌}
+use Prim.Native.Nat.{ℕ, ◌+◌, ◌/◌}
 use mathlib.Core.Path.{◌≡◌, sym, ◌∙◌}
 use mathlib.Core.Bool.{cond, not}
-use mathlib.Core.Logic.{⊎_elim}
 use native.Mathlib.Omega.{arith}
-use borrow.Author.Rules.{rules}
-use lib.ListN.{length, length-map, get_or-eq_default}
-use Rattle.laws.proofs.First.{from, fine, faulty_with, done, whole}
+use lib.ListN.{length, get_or-eq_default}
+use Rattle.laws.proofs.First.{fine, faulty_with, done, whole}
 use Rattle.table.specs.declared.Verdict.TheVariants.{Accepted, Refused}
 use Rattle.declarations.specs.Program.{procedure_in, code_verdict}
 use Rattle.policy.specs.code.Grid.{forbidden_in}
@@ -30,12 +28,15 @@ pub loop-i-preserved : goal.loop-i-preserved
 unfolding procedure_in
 loop-i-preserved c = (
   omega arith,
-  c.loop-i.invariant.1 ∙ fine Accepted (λ (number j : ℕ). Refused number (_ + j)) _ _ _ (omega arith) (elim c.if-row-eq-CALL.branch [ then-row-eq-CALL+else-not-may_call w ↦
-      let l = c.args.index.procedure_entries in
-      let e : length l ≡ 128 = c.well_formed.1.1.1.0.1.1.1.1.1.1.1.0.1.0.1 in
-      let callee-is : w.if-called-lt-MAX_PROCEDURES.callee ≡ procedure_in c.args.index c.row_at-row.result.b =
-          elim w.if-called-lt-MAX_PROCEDURES.branch [ then-called-lt-MAX_PROCEDURES v ↦ v.callee-is | else-called-lt-MAX_PROCEDURES v ↦ v.callee-is ∙ sym (get_or-eq_default l _ (omega arith)) ] in
-      call-fault _ _ _ _ _ _ c.row_at-row.ensures _ _ w.if-row-eq-CALL.true callee-is w.may_call.ensures ∙ rw w.if-not-may_call.false | else-row-eq-CALL w ↦ other_fault _ _ _ _ _ _ c.row_at-row.ensures w.if-row-eq-CALL.false ]),
+  c.loop-i.invariant.1 ∙ fine Accepted (λ (number j : ℕ). Refused number (_ + j)) _ _ _ (omega arith) (elim c.if-row-eq-CALL.branch [
+    | then-row-eq-CALL+else-not-may_call w ↦
+        let l = c.args.index.procedure_entries in
+        let e : length l ≡ 128 = c.well_formed.1.1.1.0.1.1.1.1.1.1.1.0.1.0.1 in
+        let callee-is : w.if-called-lt-MAX_PROCEDURES.callee ≡ procedure_in c.args.index c.row_at-row.result.b =
+        elim w.if-called-lt-MAX_PROCEDURES.branch [ then-called-lt-MAX_PROCEDURES v ↦ v.callee-is | else-called-lt-MAX_PROCEDURES v ↦ v.callee-is ∙ sym (get_or-eq_default l _ (omega arith)) ] in
+        call-fault _ _ _ _ _ _ c.row_at-row.ensures _ _ w.if-row-eq-CALL.true callee-is w.may_call.ensures ∙ rw w.if-not-may_call.false
+    | else-row-eq-CALL w ↦ other_fault _ _ _ _ _ _ c.row_at-row.ensures w.if-row-eq-CALL.false
+  ]),
 )
 
 pub returns : goal.returns

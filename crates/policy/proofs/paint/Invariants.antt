@@ -1,11 +1,8 @@
 -- The invariant: the pairs from the first to before k are painted.
 use Prim.Native.Nat.{◌≤◌, ◌-◌}
-use mathlib.Core.Path.{◌≡◌, ap, ◌∙◌}
-use native.Mathlib.Omega.{arith}
-use borrow.Author.Rules.{rules}
+use mathlib.Core.Path.{◌≡◌}
 use lib.ListN.{length}
 use Rattle.policy.specs.code.Grid.{painted_from}
-use Rattle.policy.proofs.Laws.{painted-length, range_none, range_next, range_past}
 use Rattle.policy.proofs.paint.Given as goal
 
 abbrev pub invariant-loop-k : goal.invariant-loop-k

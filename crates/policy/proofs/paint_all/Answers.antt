@@ -1,8 +1,8 @@
-use Prim.Native.Nat.{◌≤◌, ◌-◌, ◌/◌}
+use Prim.Native.Nat.{◌/◌}
 use mathlib.Core.Path.{◌≡◌, sym, ap, ◌∙◌}
 use native.Mathlib.Omega.{arith}
 use lib.ListN.{length}
-use Rattle.policy.specs.code.Grid.{grid_up_to, grid_of}
+use Rattle.policy.specs.code.Grid.{grid_of}
 use Rattle.policy.proofs.Laws.{rules_fine, grid_length, grid_next}
 use Rattle.policy.proofs.paint_all.Goals as goal
 

@@ -1,10 +1,7 @@
 -- The invariant: the grid is that under the first i rows.
-use Prim.Native.Nat.{◌≤◌, ◌-◌, ◌/◌}
-use mathlib.Core.Path.{◌≡◌, sym, ap, ◌∙◌}
-use native.Mathlib.Omega.{arith}
-use lib.ListN.{length}
-use Rattle.policy.specs.code.Grid.{grid_up_to, grid_of}
-use Rattle.policy.proofs.Laws.{rules_fine, grid_length, grid_next}
+use Prim.Native.Nat.{◌≤◌, ◌-◌}
+use mathlib.Core.Path.{◌≡◌}
+use Rattle.policy.specs.code.Grid.{grid_up_to}
 use Rattle.policy.proofs.paint_all.Given as goal
 
 abbrev pub invariant-loop-i : goal.invariant-loop-i

@@ -1,10 +1,9 @@
-use Prim.Native.Nat.{◌≤◌, ◌-◌, ◌+◌, ◌*◌}
-use mathlib.Core.Path.{◌≡◌, ap, ◌∙◌}
+use Prim.Native.Nat.{◌+◌, ◌*◌}
+use mathlib.Core.Path.{ap, ◌∙◌}
 use native.Mathlib.Omega.{arith}
-use borrow.Author.Rules.{rules}
 use lib.ListN.{length}
 use Rattle.policy.specs.Policy.{rule_byte}
-use Rattle.policy.proofs.Laws.{rule_ranges, painted-length, painted_to, rule-none, rule-next, rule_all}
+use Rattle.policy.proofs.Laws.{rule_ranges, painted-length, rule-none, rule-next, rule_all}
 use Rattle.policy.proofs.paint_rule.Goals as goal
 
 pub overflow_cast-last : goal.overflow_cast-last

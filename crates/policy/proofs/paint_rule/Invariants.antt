@@ -1,11 +1,8 @@
 -- The invariant: the lines of the callers before c are painted.
-use Prim.Native.Nat.{◌≤◌, ◌-◌, ◌+◌, ◌*◌}
-use mathlib.Core.Path.{◌≡◌, ap, ◌∙◌}
-use native.Mathlib.Omega.{arith}
-use borrow.Author.Rules.{rules}
+use Prim.Native.Nat.{◌≤◌, ◌-◌, ◌+◌}
+use mathlib.Core.Path.{◌≡◌}
 use lib.ListN.{length}
-use Rattle.policy.specs.Policy.{rule_byte}
-use Rattle.policy.proofs.Laws.{rule_ranges, painted-length, painted_to, rule-none, rule-next, rule_all}
+use Rattle.policy.proofs.Laws.{painted_to}
 use Rattle.policy.proofs.paint_rule.Given as goal
 
 abbrev pub invariant-loop-c : goal.invariant-loop-c

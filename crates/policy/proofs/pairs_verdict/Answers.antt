@@ -1,9 +1,8 @@
-use Prim.Native.Nat.{ℕ, ◌≤◌, ◌-◌, ◌/◌}
+use Prim.Native.Nat.{◌/◌}
 use mathlib.Core.Path.{◌≡◌, sym, ◌∙◌}
-use mathlib.Core.Bool.{cond}
 use native.Mathlib.Omega.{arith}
 use borrow.Author.Tests.{le-ltb}
-use Rattle.laws.proofs.First.{from, fine, faulty_with, done, whole, clean_from}
+use Rattle.laws.proofs.First.{fine, faulty_with, done, whole, clean_from}
 use Rattle.table.specs.declared.Verdict.TheVariants.{Accepted, Refused}
 use Rattle.policy.specs.code.Grid.{unruled_in, pairs_in}
 use Rattle.policy.proofs.pairs_verdict.Goals as goal

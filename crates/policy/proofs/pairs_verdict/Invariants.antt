@@ -1,10 +1,8 @@
 -- The invariant: no pair before pair k is refused.
-use Prim.Native.Nat.{ℕ, ◌≤◌, ◌-◌, ◌/◌}
-use mathlib.Core.Path.{◌≡◌, sym, ◌∙◌}
+use Prim.Native.Nat.{ℕ, ◌≤◌, ◌-◌}
+use mathlib.Core.Path.{◌≡◌}
 use mathlib.Core.Bool.{cond}
-use native.Mathlib.Omega.{arith}
-use borrow.Author.Tests.{le-ltb}
-use Rattle.laws.proofs.First.{from, fine, faulty_with, done, whole, clean_from}
+use Rattle.laws.proofs.First.{from}
 use Rattle.table.specs.declared.Verdict.TheVariants.{Accepted, Refused}
 use Rattle.policy.specs.code.Grid.{unruled_in, pairs_in}
 use Rattle.policy.proofs.pairs_verdict.Given as goal

@@ -1,5 +1,4 @@
 use mathlib.Core.Path.{sym, ap, ◌∙◌}
-use borrow.Author.Rules.{rules}
 use Rattle.table.specs.declared.Verdict.TheVariants.{Accepted}
 use Rattle.policy.specs.Policy.{rules_with}
 use Rattle.policy.proofs.Laws.{rules_count, grid_none, pairs-same, calls_same}

@@ -1,7 +1,6 @@
 -- `reach::visit` meets its contract: each way out is one case of `visit_of`.
 use mathlib.Core.Path.{sym}
 use native.Mathlib.Omega.{arith}
-use borrow.Author.Rules.{rules}
 use Rattle.reach.proofs.Search.{visit_outside, visit_old, visit_full, visit_large, visit_fresh}
 use Rattle.reach.proofs.visit.Goals as goal
 

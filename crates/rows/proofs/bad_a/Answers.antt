@@ -2,7 +2,6 @@ use borrow.Author.Tests.{lt-ltb}
 use mathlib.Core.Path.{sym, ◌∙◌}
 use Rattle.rows.specs.Rows.{uses_a}
 use native.Mathlib.Omega.{arith}
-use borrow.Author.Rules.{rules}
 use Rattle.rows.proofs.bad_a.Goals as goal
 
 pub returns-then-values-eq0 : goal.returns-then-values-eq0

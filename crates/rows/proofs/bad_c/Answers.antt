@@ -1,5 +1,4 @@
 use mathlib.Core.Path.{sym, ◌∙◌}
-use borrow.Author.Rules.{rules}
 use Rattle.rows.proofs.bad_c.Goals as goal
 
 pub returns-then-uses_c : goal.returns-then-uses_c

@@ -1,8 +1,7 @@
 use Rattle.rows.specs.Rows.{form_of, rows_of}
 use Rattle.table.specs.Verdicts.{and_then}
 use Rattle.table.specs.declared.Verdict.{Verdict}
-use mathlib.Core.Path.{sym, ap, ◌∙◌}
-use borrow.Author.Rules.{rules}
+use mathlib.Core.Path.{ap, ◌∙◌}
 use Rattle.rows.proofs.form_pass.Goals as goal
 
 pub returns-in-Accepted : goal.returns-in-Accepted

@@ -1,4 +1,3 @@
-use borrow.Author.Rules.{rules}
 use Rattle.rows.proofs.is_dirty.Goals as goal
 
 pub returns : goal.returns

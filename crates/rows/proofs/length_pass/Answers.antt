@@ -1,6 +1,5 @@
 use borrow.Author.Tests.{eq-eqb, ne_eqb, lt-ltb, le-ltb}
 use Rattle.rows.specs.Rows.{length_of}
-use borrow.Author.Rules.{rules}
 use Rattle.rows.proofs.length_pass.Goals as goal
 
 pub returns-then-n-eq0 : goal.returns-then-n-eq0

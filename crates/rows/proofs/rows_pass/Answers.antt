@@ -1,12 +1,11 @@
 use Rattle.rows.proofs.Laws.{fits_below}
 use Rattle.rows.specs.Rows.{rows_of, fault_at, above_at}
 use Rattle.table.specs.declared.Verdict.TheVariants.{Accepted, Refused}
-use Rattle.laws.proofs.First.{from, fine, faulty_with, done, whole}
+use Rattle.laws.proofs.First.{fine, faulty_with, done, whole}
 use native.Mathlib.Numerals.{add-one}
 use lib.ListN.{length}
 use mathlib.Core.Path.{◌≡◌, refl, sym, ◌∙◌}
-use Prim.Native.Nat.{◌≤◌, ◌-◌, ◌/◌, ◌+◌}
-use borrow.Author.Rules.{rules}
+use Prim.Native.Nat.{◌/◌, ◌+◌}
 use native.Mathlib.Omega.{arith}
 use Rattle.rows.proofs.rows_pass.Goals as goal
 

@@ -1,6 +1,5 @@
 use mathlib.Core.Path.{sym, ◌∙◌}
 use Rattle.rows.specs.Rows.{unused_byte, uses_a}
-use borrow.Author.Rules.{rules}
 use Rattle.rows.proofs.unused_byte.Goals as goal
 
 pub returns-then-is_dirty : goal.returns-then-is_dirty

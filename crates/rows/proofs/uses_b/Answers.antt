@@ -2,7 +2,6 @@ use Rattle.rows.proofs.Laws.{field-type, never, no_b}
 use mathlib.Core.Path.{sym}
 use Rattle.rows.specs.Rows.{uses_b, uses}
 use native.Mathlib.Omega.{arith}
-use borrow.Author.Rules.{rules}
 use Rattle.rows.proofs.uses_b.Goals as goal
 
 pub returns-in-3 : goal.returns-in-3

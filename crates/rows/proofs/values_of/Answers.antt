@@ -2,7 +2,6 @@ use Rattle.rows.specs.Rows.{Use}
 use Rattle.rows.proofs.Laws.{value_count, no_use}
 use mathlib.Core.Path.{sym, ap}
 use native.Mathlib.Omega.{arith}
-use borrow.Author.Rules.{rules}
 use Rattle.rows.proofs.values_of.Goals as goal
 
 pub returns-then-kind-gt7 : goal.returns-then-kind-gt7

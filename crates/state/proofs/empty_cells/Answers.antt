@@ -1,9 +1,7 @@
-use Prim.Native.Nat.{◌-◌, ◌≤◌}
 use mathlib.Core.Path.{◌≡◌, refl}
 use native.Mathlib.Omega.{arith}
 use borrow.Author.Rules.{rules}
-use lib.ListN.{length}
-use Rattle.state.specs.code.Cells.{cells_of, emptied}
+use Rattle.state.specs.code.Cells.{emptied}
 use Rattle.state.proofs.Cells.{emptied_more}
 use Rattle.state.proofs.empty_cells.Goals as goal
 

@@ -1,5 +1,4 @@
 use mathlib.Core.Path.{sym}
-use borrow.Author.Rules.{rules}
 use Rattle.state.proofs.Cells.{first_in}
 use Rattle.state.proofs.first_at.Goals as goal
 

@@ -1,5 +1,4 @@
 use Rattle.state.proofs.Tests.{tests}
-use borrow.Author.Rules.{rules}
 use Rattle.state.proofs.has_tag.Goals as goal
 
 pub returns-then-o-cells : goal.returns-then-o-cells

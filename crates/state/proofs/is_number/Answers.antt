@@ -1,5 +1,4 @@
 use mathlib.Core.Path.{sym}
-use borrow.Author.Rules.{rules}
 use Rattle.state.proofs.Cells.{number-told}
 use Rattle.state.proofs.is_number.Goals as goal
 

@@ -1,5 +1,4 @@
 use mathlib.Core.Path.{sym}
-use borrow.Author.Rules.{rules}
 use Rattle.state.proofs.Cells.{record_told}
 use Rattle.state.proofs.is_record.Goals as goal
 

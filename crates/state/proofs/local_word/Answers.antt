@@ -1,4 +1,3 @@
-use borrow.Author.Rules.{rules}
 use Rattle.state.proofs.Coding.{local_back}
 use Rattle.state.proofs.local_word.Goals as goal
 

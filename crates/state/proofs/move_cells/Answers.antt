@@ -1,9 +1,7 @@
-use Prim.Native.Nat.{◌-◌, ◌≤◌}
 use mathlib.Core.Path.{◌≡◌, refl}
 use native.Mathlib.Omega.{arith}
 use borrow.Author.Rules.{rules}
-use lib.ListN.{length}
-use Rattle.state.specs.code.Cells.{cells_of, moved}
+use Rattle.state.specs.code.Cells.{moved}
 use Rattle.state.proofs.Cells.{moved_more}
 use Rattle.state.proofs.move_cells.Goals as goal
 

@@ -1,10 +1,7 @@
 use Prim.Native.Nat.{◌-◌, ◌≤◌}
-use mathlib.Core.Path.{◌≡◌, refl}
-use native.Mathlib.Omega.{arith}
-use borrow.Author.Rules.{rules}
+use mathlib.Core.Path.{◌≡◌}
 use lib.ListN.{length}
 use Rattle.state.specs.code.Cells.{cells_of, moved}
-use Rattle.state.proofs.Cells.{moved_more}
 use Rattle.state.proofs.move_cells.Given as goal
 
 abbrev pub invariant-loop-j : goal.invariant-loop-j

@@ -1,5 +1,4 @@
 use mathlib.Core.Path.{sym}
-use borrow.Author.Rules.{rules}
 use Rattle.state.proofs.Cells.{number-in}
 use Rattle.state.proofs.number_at.Goals as goal
 

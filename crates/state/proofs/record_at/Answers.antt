@@ -1,4 +1,3 @@
-use borrow.Author.Rules.{rules}
 use Rattle.state.specs.code.Coding.{values, value_of}
 use Rattle.state.proofs.Cells.{first_in, second_in, third_in}
 use Rattle.state.proofs.record_at.Goals as goal

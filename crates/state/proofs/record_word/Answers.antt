@@ -1,4 +1,3 @@
-use borrow.Author.Rules.{rules}
 use Rattle.state.proofs.Coding.{record_back, whole_back}
 use Rattle.state.proofs.record_word.Goals as goal
 

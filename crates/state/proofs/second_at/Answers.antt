@@ -1,5 +1,4 @@
 use mathlib.Core.Path.{sym}
-use borrow.Author.Rules.{rules}
 use Rattle.state.proofs.Cells.{second_in}
 use Rattle.state.proofs.second_at.Goals as goal
 

@@ -1,5 +1,4 @@
 use mathlib.Core.Path.{sym}
-use borrow.Author.Rules.{rules}
 use Rattle.state.proofs.Cells.{third_in}
 use Rattle.state.proofs.third_at.Goals as goal
 

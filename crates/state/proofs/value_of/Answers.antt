@@ -1,5 +1,4 @@
 use mathlib.Core.Path.{sym}
-use borrow.Author.Rules.{rules}
 use lib.ListN.{get_or-eq_default}
 use Rattle.state.specs.declared.Operand.TheVariants.{Empty}
 use Rattle.state.specs.code.Coding.{value_of, values}

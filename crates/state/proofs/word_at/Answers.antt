@@ -1,5 +1,4 @@
 use Rattle.state.proofs.Tests.{tests}
-use borrow.Author.Rules.{rules}
 use Rattle.state.proofs.word_at.Goals as goal
 
 pub returns-then-cells-at : goal.returns-then-cells-at

@@ -1,5 +1,4 @@
 use native.Mathlib.Omega.{arith}
-use borrow.Author.Rules.{rules}
 use Rattle.steps.proofs.Laws.{parameters-few}
 use Rattle.steps.proofs.parameters_of.Goals as goal
 

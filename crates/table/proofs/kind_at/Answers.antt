@@ -1,6 +1,5 @@
 -- Inside the table the kind is the row's first byte, outside it is 0.
 use mathlib.Core.Path.{sym}
-use borrow.Author.Rules.{rules}
 use Rattle.table.proofs.Laws.{kind-inside, kind_outside}
 use Rattle.table.proofs.kind_at.Goals as goal
 

@@ -2,7 +2,6 @@ use mathlib.Core.Path.{sym}
 use Prim.Native.Nat.{◌+◌}
 use Rattle.laws.proofs.Numbers.{le_2}
 use native.Mathlib.Omega.{arith}
-use borrow.Author.Rules.{rules}
 use Rattle.table.proofs.le16_at.Goals as goal
 
 pub overflow_cast-result : goal.overflow_cast-result

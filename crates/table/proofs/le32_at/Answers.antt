@@ -1,5 +1,4 @@
 use Rattle.laws.proofs.Numbers.{le_4}
-use borrow.Author.Rules.{rules}
 use Rattle.table.proofs.le32_at.Goals as goal
 
 pub returns : goal.returns

@@ -1,6 +1,5 @@
 use borrow.Author.Tests.{lt-ltb, le-ltb}
 use Rattle.table.specs.Rows.{row_at, row_from}
-use borrow.Author.Rules.{rules}
 use Rattle.table.proofs.row_at.Goals as goal
 
 pub returns-then-i-table : goal.returns-then-i-table

@@ -1,5 +1,4 @@
 -- `text::put_byte` meets its contract: the byte has room, or it has none.
-use borrow.Author.Rules.{rules}
 use Rattle.text.proofs.Placing.{puts_byte, puts_full}
 use Rattle.text.proofs.put_byte.Goals as goal
 

@@ -1,5 +1,4 @@
 -- `text::put_call` meets its contract: the word, and then the number.
-use borrow.Author.Rules.{rules}
 use Rattle.semantics.specs.Ascii.{ascii}
 use Rattle.semantics.specs.Text.{decimal, spaced}
 use Rattle.text.proofs.Placing.{puts_more}

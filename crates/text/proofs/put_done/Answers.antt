@@ -1,5 +1,4 @@
 -- `text::put_done` meets its contract: the parts of the line, one after the other.
-use borrow.Author.Rules.{rules}
 use mathlib.Core.List.{◌++◌}
 use lib.ListN.{take}
 use Rattle.semantics.specs.Ascii.{ascii}

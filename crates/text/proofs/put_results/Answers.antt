@@ -1,12 +1,12 @@
 use borrow.Author.Rules.{rules}
 use native.Mathlib.Omega.{arith}
-use Prim.Native.Nat.{ℕ, ◌-◌, ◌<◌, ◌≤◌}
+use Prim.Native.Nat.{ℕ, ◌<◌, ◌≤◌}
 use mathlib.Core.Path.{◌≡◌, refl, sym, ap, ◌∙◌}
 use mathlib.Core.List.{List}
 use lib.ListN.{length, take, get_or}
 use lib.Seq.{take_all}
 use Rattle.semantics.specs.Text.{decimal, spaced}
-use Rattle.text.proofs.Placing.{Puts, puts_none, puts_more, puts_same}
+use Rattle.text.proofs.Placing.{puts_none, puts_more, puts_same}
 use Rattle.text.proofs.Lines.{numbers, numbers_more}
 use Rattle.text.proofs.put_results.Goals as goal
 

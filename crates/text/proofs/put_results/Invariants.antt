@@ -1,14 +1,9 @@
 -- `text::put_results` meets its contract. The first i results are put.
-use borrow.Author.Rules.{rules}
-use native.Mathlib.Omega.{arith}
-use Prim.Native.Nat.{ℕ, ◌-◌, ◌<◌, ◌≤◌}
-use mathlib.Core.Path.{◌≡◌, refl, sym, ap, ◌∙◌}
-use mathlib.Core.List.{List}
-use lib.ListN.{length, take, get_or}
-use lib.Seq.{take_all}
-use Rattle.semantics.specs.Text.{decimal, spaced}
-use Rattle.text.proofs.Placing.{Puts, puts_none, puts_more, puts_same}
-use Rattle.text.proofs.Lines.{numbers, numbers_more}
+use Prim.Native.Nat.{◌-◌, ◌≤◌}
+use mathlib.Core.Path.{◌≡◌}
+use lib.ListN.{length, take}
+use Rattle.text.proofs.Placing.{Puts}
+use Rattle.text.proofs.Lines.{numbers}
 use Rattle.text.proofs.put_results.Given as goal
 
 abbrev pub invariant-loop-i : goal.invariant-loop-i

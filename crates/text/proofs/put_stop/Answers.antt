@@ -1,5 +1,4 @@
 -- `text::put_stop` meets its contract: the parts of the line, one after the other.
-use borrow.Author.Rules.{rules}
 use mathlib.Core.List.{◌++◌}
 use Rattle.semantics.specs.Ascii.{ascii}
 use Rattle.semantics.specs.Text.{decimal, spaced}

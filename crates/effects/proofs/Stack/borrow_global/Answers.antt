@@ -1,5 +1,4 @@
 use mathlib.Core.Path.{ap₂, ◌∙◌}
-use borrow.Author.Rules.{rules}
 use Rattle.effects.specs.Kinds.{pushed, taken_all, pushed_all}
 use Rattle.effects.specs.Effects.{applied}
 use Rattle.effects.proofs.Stack.borrow_global.Goals as goal

@@ -3,7 +3,6 @@ use mathlib.Core.Path.{sym, ◌∙◌}
 use native.Mathlib.Omega.{arith}
 use borrow.Author.Tests.{leb-false}
 use Rattle.declarations.specs.Program.{is_reference}
-use borrow.Author.Rules.{rules}
 use Rattle.effects.specs.Kinds.{taken_all, pushed_all}
 use Rattle.effects.specs.Effects.{applied}
 use Rattle.effects.proofs.Stack.borrow_local.Goals as goal

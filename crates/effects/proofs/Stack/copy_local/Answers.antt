@@ -1,4 +1,3 @@
-use borrow.Author.Rules.{rules}
 use Rattle.effects.specs.Kinds.{taken_all, pushed_all}
 use Rattle.effects.specs.Effects.{applied}
 use Rattle.effects.proofs.Stack.copy_local.Goals as goal

@@ -1,4 +1,3 @@
-use borrow.Author.Rules.{rules}
 use Rattle.effects.proofs.Laws.{fault_is}
 use Rattle.effects.proofs.Tests.{tests}
 use Rattle.effects.proofs.Stack.fault_after.Goals as goal

@@ -1,6 +1,5 @@
 use mathlib.Core.Path.{ap, sym, ◌∙◌}
 use native.Mathlib.Omega.{arith}
-use borrow.Author.Rules.{rules}
 use Rattle.effects.specs.Kinds.{pushed, taken_all, pushed_all}
 use Rattle.effects.specs.Effects.{applied}
 use Rattle.effects.proofs.Laws.{not_last}

@@ -1,4 +1,3 @@
-use borrow.Author.Rules.{rules}
 use Rattle.effects.proofs.Stack.is_left.Goals as goal
 
 pub returns-then-last : goal.returns-then-last

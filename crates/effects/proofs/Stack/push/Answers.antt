@@ -2,7 +2,6 @@ use native.Mathlib.Omega.{arith}
 use borrow.Author.Tests.{eq-eqb, le-ltb}
 use Rattle.effects.proofs.Laws.{push-is}
 use Rattle.effects.proofs.Tests.{tests}
-use borrow.Author.Rules.{rules}
 use Rattle.effects.proofs.Stack.push.Goals as goal
 
 pub returns-then-self-ne0 : goal.returns-then-self-ne0

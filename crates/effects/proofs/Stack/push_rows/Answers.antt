@@ -1,9 +1,5 @@
-use Prim.Native.Nat.{◌-◌}
-use mathlib.Core.Path.{◌≡◌, refl, sym, ◌∙◌}
-use native.Mathlib.Omega.{arith}
-use borrow.Author.Rules.{rules}
-use Rattle.declarations.specs.Program.{kinds_of}
-use Rattle.effects.specs.Kinds.{view, pushed_all}
+use mathlib.Core.Path.{refl, sym, ◌∙◌}
+use Rattle.effects.specs.Kinds.{pushed_all}
 use Rattle.effects.proofs.Laws.{kinds-none, kinds-first}
 use Rattle.effects.proofs.Stack.push_rows.Goals as goal
 

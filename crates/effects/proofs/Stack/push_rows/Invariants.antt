@@ -1,11 +1,8 @@
 -- The invariant: the kinds of the rows from i on, pushed now, give what all of them give, pushed at the start.
 use Prim.Native.Nat.{◌-◌}
-use mathlib.Core.Path.{◌≡◌, refl, sym, ◌∙◌}
-use native.Mathlib.Omega.{arith}
-use borrow.Author.Rules.{rules}
+use mathlib.Core.Path.{◌≡◌}
 use Rattle.declarations.specs.Program.{kinds_of}
 use Rattle.effects.specs.Kinds.{view, pushed_all}
-use Rattle.effects.proofs.Laws.{kinds-none, kinds-first}
 use Rattle.effects.proofs.Stack.push_rows.Given as goal
 
 abbrev pub invariant-loop-i : goal.invariant-loop-i

@@ -1,5 +1,4 @@
 use mathlib.Core.Path.{ap, ◌∙◌}
-use borrow.Author.Rules.{rules}
 use Rattle.effects.specs.Kinds.{pushed, taken_all, pushed_all}
 use Rattle.effects.specs.Effects.{applied}
 use Rattle.effects.proofs.Stack.read_ref.Goals as goal

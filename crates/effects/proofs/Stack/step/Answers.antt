@@ -1,5 +1,4 @@
 use mathlib.Core.Path.{◌∙◌}
-use borrow.Author.Rules.{rules}
 use Rattle.effects.specs.Kinds.{taken_all, pushed_all}
 use Rattle.effects.specs.Effects.{effects, applied}
 use Rattle.laws.proofs.Cases.{above}

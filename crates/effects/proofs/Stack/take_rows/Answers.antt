@@ -1,10 +1,8 @@
-use Prim.Native.Nat.{◌≤◌, min}
-use mathlib.Core.Path.{◌≡◌, ap, ap₂, ◌∙◌}
+use mathlib.Core.Path.{ap, ap₂, ◌∙◌}
 use native.Mathlib.Nat.{le_refl}
 use native.Mathlib.Omega.{arith}
-use borrow.Author.Rules.{rules}
-use Rattle.declarations.specs.Program.{row_kind, kinds_of}
-use Rattle.effects.specs.Kinds.{view, taken, taken_all}
+use Rattle.declarations.specs.Program.{row_kind}
+use Rattle.effects.specs.Kinds.{taken, taken_all}
 use Rattle.effects.proofs.Laws.{kinds-none, kinds-before, kinds-whole}
 use Rattle.effects.proofs.Stack.take_rows.Goals as goal
 

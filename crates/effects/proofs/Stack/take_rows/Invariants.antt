@@ -1,12 +1,8 @@
 -- The invariant: i lies between the smaller bound and `to`, and the kinds of the rows from i to before `to` are taken.
 use Prim.Native.Nat.{◌≤◌, min}
-use mathlib.Core.Path.{◌≡◌, ap, ap₂, ◌∙◌}
-use native.Mathlib.Nat.{le_refl}
-use native.Mathlib.Omega.{arith}
-use borrow.Author.Rules.{rules}
-use Rattle.declarations.specs.Program.{row_kind, kinds_of}
-use Rattle.effects.specs.Kinds.{view, taken, taken_all}
-use Rattle.effects.proofs.Laws.{kinds-none, kinds-before, kinds-whole}
+use mathlib.Core.Path.{◌≡◌}
+use Rattle.declarations.specs.Program.{kinds_of}
+use Rattle.effects.specs.Kinds.{view, taken_all}
 use Rattle.effects.proofs.Stack.take_rows.Given as goal
 
 abbrev pub invariant-loop-i : goal.invariant-loop-i

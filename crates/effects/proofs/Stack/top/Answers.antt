@@ -1,6 +1,5 @@
 use Rattle.effects.proofs.Laws.{top-is}
 use Rattle.effects.proofs.Tests.{tests}
-use borrow.Author.Rules.{rules}
 use Rattle.effects.proofs.Stack.top.Goals as goal
 
 pub returns-then-self-ne0 : goal.returns-then-self-ne0

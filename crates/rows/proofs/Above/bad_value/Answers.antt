@@ -1,6 +1,5 @@
 use mathlib.Core.Path.{sym, ◌∙◌}
 use Rattle.rows.specs.Rows.{bad_value}
-use borrow.Author.Rules.{rules}
 use Rattle.rows.proofs.Above.bad_value.Goals as goal
 
 pub returns-then-bad_a : goal.returns-then-bad_a

@@ -3,7 +3,6 @@ use lib.Dec.{leb-zero}
 use Rattle.rows.proofs.Laws.{no_limit}
 use mathlib.Core.Path.{sym}
 use Rattle.rows.specs.Rows.{too_many, limits}
-use borrow.Author.Rules.{rules}
 use Rattle.rows.proofs.Above.overfills.Goals as goal
 
 pub returns-then-kind-gt7 : goal.returns-then-kind-gt7

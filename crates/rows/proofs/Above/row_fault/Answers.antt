@@ -1,6 +1,5 @@
 use mathlib.Core.Path.{sym, ◌∙◌}
 use Rattle.rows.specs.Rows.{row_fault}
-use borrow.Author.Rules.{rules}
 use Rattle.rows.proofs.Above.row_fault.Goals as goal
 
 pub returns-then-misplaces : goal.returns-then-misplaces

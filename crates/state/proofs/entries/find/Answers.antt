@@ -1,9 +1,5 @@
-use Prim.Native.Nat.{◌≤◌}
-use mathlib.Core.Path.{◌≡◌, refl, sym, ◌∙◌}
-use Rattle.state.specs.code.Cells.{cells_of}
-use Rattle.state.specs.code.Entries.{last_under}
+use mathlib.Core.Path.{refl, sym, ◌∙◌}
 use Rattle.state.proofs.Searches.{under-here, under_next, under_none}
-use borrow.Author.Rules.{rules}
 use native.Mathlib.Omega.{arith}
 use Rattle.state.proofs.entries.find.Goals as goal
 

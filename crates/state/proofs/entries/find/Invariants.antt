@@ -1,10 +1,7 @@
 use Prim.Native.Nat.{◌≤◌}
-use mathlib.Core.Path.{◌≡◌, refl, sym, ◌∙◌}
+use mathlib.Core.Path.{◌≡◌}
 use Rattle.state.specs.code.Cells.{cells_of}
 use Rattle.state.specs.code.Entries.{last_under}
-use Rattle.state.proofs.Searches.{under-here, under_next, under_none}
-use borrow.Author.Rules.{rules}
-use native.Mathlib.Omega.{arith}
 use Rattle.state.proofs.entries.find.Given as goal
 
 abbrev pub invariant-loop-i : goal.invariant-loop-i

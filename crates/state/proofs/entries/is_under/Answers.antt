@@ -1,5 +1,4 @@
 use borrow.Author.Tests.{eq-eqb, ne_eqb}
-use borrow.Author.Rules.{rules}
 use Rattle.state.proofs.entries.is_under.Goals as goal
 
 pub returns-then-number_at-address : goal.returns-then-number_at-address

@@ -1,5 +1,4 @@
 use Rattle.state.specs.code.Coding.{values, value_of}
-use borrow.Author.Rules.{rules}
 use Rattle.state.proofs.entries.put_entry.Goals as goal
 
 pub returns : goal.returns

@@ -1,6 +1,5 @@
 use borrow.Author.Tests.{lt-ltb, le-leb}
 use Rattle.state.proofs.Tests.{tests}
-use borrow.Author.Rules.{rules}
 use Rattle.state.proofs.entries.remove_entry.Goals as goal
 
 pub returns-then-n-le-ENTRIES : goal.returns-then-n-le-ENTRIES

@@ -1,6 +1,5 @@
 use Rattle.state.specs.code.Frames.{next_serial}
 use Rattle.state.proofs.Tests.{tests}
-use borrow.Author.Rules.{rules}
 use Rattle.state.proofs.frames.next_serial.Goals as goal
 
 pub returns-then-n-lt4294967295 : goal.returns-then-n-lt4294967295

@@ -1,5 +1,4 @@
 use borrow.Author.Tests.{lt-ltb, le-ltb}
-use borrow.Author.Rules.{rules}
 use Rattle.state.proofs.rooms.field_cell.Goals as goal
 
 pub returns-then-j-second_at : goal.returns-then-j-second_at

@@ -1,10 +1,5 @@
-use borrow.Author.Tests.{not-true, not-false}
-use Prim.Native.Nat.{◌-◌}
-use mathlib.Core.Path.{◌≡◌, refl, sym, ◌∙◌}
-use Rattle.state.specs.code.Cells.{cells_of}
-use Rattle.state.specs.code.Rooms.{first_free}
+use mathlib.Core.Path.{refl, sym, ◌∙◌}
 use Rattle.state.proofs.Searches.{free_next, free_here, free_none}
-use borrow.Author.Rules.{rules}
 use native.Mathlib.Omega.{arith}
 use Rattle.state.proofs.rooms.free_room.Goals as goal
 

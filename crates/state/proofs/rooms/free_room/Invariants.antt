@@ -1,11 +1,7 @@
-use borrow.Author.Tests.{not-true, not-false}
 use Prim.Native.Nat.{◌-◌}
-use mathlib.Core.Path.{◌≡◌, refl, sym, ◌∙◌}
+use mathlib.Core.Path.{◌≡◌}
 use Rattle.state.specs.code.Cells.{cells_of}
 use Rattle.state.specs.code.Rooms.{first_free}
-use Rattle.state.proofs.Searches.{free_next, free_here, free_none}
-use borrow.Author.Rules.{rules}
-use native.Mathlib.Omega.{arith}
 use Rattle.state.proofs.rooms.free_room.Given as goal
 
 abbrev pub invariant-loop-r : goal.invariant-loop-r

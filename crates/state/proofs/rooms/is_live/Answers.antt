@@ -1,4 +1,3 @@
-use borrow.Author.Rules.{rules}
 use Rattle.state.proofs.rooms.is_live.Goals as goal
 
 pub returns-then-is_record : goal.returns-then-is_record

@@ -1,9 +1,7 @@
-use Prim.Native.Nat.{◌≤◌, ◌-◌}
-use mathlib.Core.Logic.{inl, inr, ⊎_elim}
 use native.Mathlib.Omega.{arith}
 use borrow.Author.Rules.{rules}
 use Rattle.table.proofs.Laws.{type-within, procedure-within}
-use Rattle.table.proofs.Scan.{Scanned, scan_start, scan_few, scan_module, scan_type, scan_procedure, scan_other, scan_whole}
+use Rattle.table.proofs.Scan.{scan_start, scan_few, scan_module, scan_type, scan_procedure, scan_other, scan_whole}
 use Rattle.table.proofs.index.index_of.Goals as goal
 
 pub loop-i-init : goal.loop-i-init

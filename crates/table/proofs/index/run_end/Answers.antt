@@ -1,8 +1,5 @@
-use Prim.Native.Nat.{◌-◌}
-use mathlib.Core.Path.{◌≡◌, refl, sym, ◌∙◌}
+use mathlib.Core.Path.{refl, sym, ◌∙◌}
 use native.Mathlib.Omega.{arith}
-use borrow.Author.Rules.{rules}
-use Rattle.table.specs.Index.{run_end}
 use Rattle.table.proofs.Laws.{is-kind, not-kind, run-next, run_here, run_past}
 use Rattle.table.proofs.index.run_end.Goals as goal
 

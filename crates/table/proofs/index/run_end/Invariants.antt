@@ -1,10 +1,7 @@
 -- The invariant: the run from the start on ends where the run from row i on ends.
 use Prim.Native.Nat.{◌-◌}
-use mathlib.Core.Path.{◌≡◌, refl, sym, ◌∙◌}
-use native.Mathlib.Omega.{arith}
-use borrow.Author.Rules.{rules}
+use mathlib.Core.Path.{◌≡◌}
 use Rattle.table.specs.Index.{run_end}
-use Rattle.table.proofs.Laws.{is-kind, not-kind, run-next, run_here, run_past}
 use Rattle.table.proofs.index.run_end.Given as goal
 
 abbrev pub invariant-loop-i : goal.invariant-loop-i

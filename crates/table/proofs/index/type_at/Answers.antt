@@ -1,6 +1,5 @@
 -- The run of fields ends within the table, and so fits.
 use native.Mathlib.Omega.{arith}
-use borrow.Author.Rules.{rules}
 use Rattle.laws.proofs.Lists.{count-few}
 use Rattle.table.specs.Format.{module_kind}
 use Rattle.table.specs.Rows.{is_kind}

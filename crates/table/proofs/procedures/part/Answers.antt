@@ -1,8 +1,6 @@
 -- The two tests are those of the definition.
 use mathlib.Core.Path.{◌≡◌, sym, ap}
 use mathlib.Core.Bool.{false}
-use mathlib.Core.Logic.{⊎_elim}
-use borrow.Author.Rules.{rules}
 use Rattle.table.specs.Procedures.{rows_between, place_in, in_table}
 use Rattle.table.proofs.Laws.{not-in_order, past_table, part_inside, start-inside, part_outside, start_outside}
 use Rattle.table.proofs.procedures.part.Goals as goal

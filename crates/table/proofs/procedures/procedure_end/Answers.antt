@@ -1,8 +1,5 @@
-use Prim.Native.Nat.{◌-◌}
-use mathlib.Core.Path.{◌≡◌, refl, sym, ◌∙◌}
+use mathlib.Core.Path.{refl, sym, ◌∙◌}
 use native.Mathlib.Omega.{arith}
-use borrow.Author.Rules.{rules}
-use Rattle.table.specs.Procedures.{procedure_end}
 use Rattle.table.proofs.Laws.{is-kind, not-kind, ends_module, ends-procedure, ends-not, end-next, end-here, end_past}
 use Rattle.table.proofs.procedures.procedure_end.Goals as goal
 

@@ -1,10 +1,7 @@
 -- The invariant: the end from the start on is the end from row i on.
 use Prim.Native.Nat.{◌-◌}
-use mathlib.Core.Path.{◌≡◌, refl, sym, ◌∙◌}
-use native.Mathlib.Omega.{arith}
-use borrow.Author.Rules.{rules}
+use mathlib.Core.Path.{◌≡◌}
 use Rattle.table.specs.Procedures.{procedure_end}
-use Rattle.table.proofs.Laws.{is-kind, not-kind, ends_module, ends-procedure, ends-not, end-next, end-here, end_past}
 use Rattle.table.proofs.procedures.procedure_end.Given as goal
 
 abbrev pub invariant-loop-i : goal.invariant-loop-i

@@ -1,8 +1,5 @@
-use Prim.Native.Nat.{◌≤◌, ◌+◌, ◌-◌}
 use mathlib.Core.Path.{◌≡◌, sym, ap, ◌∙◌}
-use mathlib.Core.Logic.{⊎_elim}
 use native.Mathlib.Omega.{arith}
-use borrow.Author.Rules.{rules}
 use Rattle.laws.specs.Lists.{nth, count}
 use Rattle.laws.proofs.Lists.{count-zero, count_yes, count_no, nth-count, nth-none}
 use Rattle.table.specs.Format.{procedure_kind}

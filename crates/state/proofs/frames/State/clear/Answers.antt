@@ -1,6 +1,5 @@
 use borrow.Author.Tests.{lt-ltb}
 use Rattle.state.proofs.Tests.{tests}
-use borrow.Author.Rules.{rules}
 use Rattle.state.proofs.frames.State.clear.Goals as goal
 
 pub returns-then-l-self : goal.returns-then-l-self

@@ -1,4 +1,3 @@
-use borrow.Author.Rules.{rules}
 use Rattle.state.proofs.frames.State.drop_top.Goals as goal
 
 pub returns : goal.returns

@@ -1,5 +1,4 @@
 use borrow.Author.Tests.{lt-ltb, le-ltb}
-use borrow.Author.Rules.{rules}
 use Rattle.state.proofs.frames.State.enter.Goals as goal
 
 pub returns-then-d-lt255 : goal.returns-then-d-lt255

@@ -1,5 +1,4 @@
 use Rattle.state.proofs.Tests.{tests}
-use borrow.Author.Rules.{rules}
 use Rattle.state.proofs.frames.State.next.Goals as goal
 
 pub returns-then-i-lt65535 : goal.returns-then-i-lt65535

@@ -1,5 +1,4 @@
 use borrow.Author.Tests.{lt-ltb, le-ltb}
-use borrow.Author.Rules.{rules}
 use Rattle.state.proofs.frames.State.number.Goals as goal
 
 pub returns-then-k-self : goal.returns-then-k-self

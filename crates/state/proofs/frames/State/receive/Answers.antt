@@ -1,7 +1,6 @@
 use mathlib.Core.Path.{refl}
 use borrow.Author.Tests.{le-leb}
 use Rattle.state.proofs.Tests.{tests}
-use borrow.Author.Rules.{rules}
 use Rattle.state.proofs.frames.State.receive.Goals as goal
 
 pub returns-then-k-h : goal.returns-then-k-h

@@ -1,6 +1,5 @@
 use borrow.Author.Tests.{ne_eqb}
 use Rattle.state.proofs.Tests.{tests}
-use borrow.Author.Rules.{rules}
 use Rattle.state.proofs.frames.State.resume.Goals as goal
 
 pub returns-then-self-eq0 : goal.returns-then-self-eq0

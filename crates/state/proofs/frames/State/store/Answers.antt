@@ -1,7 +1,6 @@
 use native.Mathlib.Nat.{sub-zero}
 use borrow.Author.Tests.{lt-ltb}
 use Rattle.state.proofs.Tests.{tests}
-use borrow.Author.Rules.{rules}
 use Rattle.state.proofs.frames.State.store.Goals as goal
 
 pub returns-then-l-self : goal.returns-then-l-self
