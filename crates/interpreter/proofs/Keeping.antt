@@ -1,5 +1,5 @@
 -- Cells that are kept before a call and put back after a stop, and the cells in which a call begins.
-use Prim.Native.Nat.{ℕ, zero, suc, ◌+◌, ◌-◌, ◌*◌, ◌/◌, ◌≤◌, ◌<◌}
+use Prim.Native.Nat.{ℕ, zero, suc, ◌+◌, ◌*◌, ◌/◌, ◌≤◌, ◌<◌}
 use mathlib.Core.Path.{◌≡◌, refl, ap, sym, ◌∙◌, subst}
 use mathlib.Core.Bool.{Bool, true, false, cond}
 use mathlib.Core.Logic.{◌⊎◌, inl, inr}
@@ -136,7 +136,7 @@ up_filled cs at (x ∷ xs) w =
     let e : at + 1 ≡ suc at = omega arith in
     let there = filled_other (set cs at (Number x)) (at + 1) xs at (inl (omega arith)) ∙ get_or-set_same cs at (Number x) Empty (omega arith) in
     let rest : up_from (filled (set cs at (Number x)) (at + 1) xs) (suc at) (length xs) ≡ map Number xs =
-        subst (λ (k : ℕ). up_from (filled (set cs at (Number x)) (at + 1) xs) k (length xs) ≡ map Number xs) e (up_filled (set cs at (Number x)) (at + 1) xs (omega (arith, length-set cs at (Number x)))) in
+    subst (λ (k : ℕ). up_from (filled (set cs at (Number x)) (at + 1) xs) k (length xs) ≡ map Number xs) e (up_filled (set cs at (Number x)) (at + 1) xs (omega (arith, length-set cs at (Number x)))) in
     rw there (ap (λ (l : List Operand). Number x ∷ l) rest)
 
 -- Loops: one more number carried, one more head emptied, one more argument put.

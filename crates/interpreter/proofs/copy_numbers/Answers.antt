@@ -1,6 +1,4 @@
-use Prim.Native.Nat.{◌-◌, ◌≤◌}
 use mathlib.Core.Path.{◌≡◌, refl}
-use lib.ListN.{length}
 use Rattle.interpreter.specs.code.Calls.{carried}
 use Rattle.interpreter.proofs.Keeping.{carried_more}
 use borrow.Author.Rules.{rules}

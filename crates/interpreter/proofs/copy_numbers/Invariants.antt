@@ -1,10 +1,7 @@
 use Prim.Native.Nat.{◌-◌, ◌≤◌}
-use mathlib.Core.Path.{◌≡◌, refl}
+use mathlib.Core.Path.{◌≡◌}
 use lib.ListN.{length}
 use Rattle.interpreter.specs.code.Calls.{carried}
-use Rattle.interpreter.proofs.Keeping.{carried_more}
-use borrow.Author.Rules.{rules}
-use native.Mathlib.Omega.{arith}
 use Rattle.interpreter.proofs.copy_numbers.Given as goal
 
 abbrev pub invariant-loop-j : goal.invariant-loop-j

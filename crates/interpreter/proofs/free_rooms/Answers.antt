@@ -1,7 +1,4 @@
-use Prim.Native.Nat.{◌-◌, ◌≤◌}
 use mathlib.Core.Path.{◌≡◌, refl}
-use lib.ListN.{length}
-use Rattle.state.specs.code.Cells.{cells_of}
 use Rattle.interpreter.specs.code.Calls.{freed}
 use Rattle.interpreter.proofs.Keeping.{freed_more}
 use borrow.Author.Rules.{rules}

@@ -1,11 +1,8 @@
 use Prim.Native.Nat.{◌-◌, ◌≤◌}
-use mathlib.Core.Path.{◌≡◌, refl}
+use mathlib.Core.Path.{◌≡◌}
 use lib.ListN.{length}
 use Rattle.state.specs.code.Cells.{cells_of}
 use Rattle.interpreter.specs.code.Calls.{freed}
-use Rattle.interpreter.proofs.Keeping.{freed_more}
-use borrow.Author.Rules.{rules}
-use native.Mathlib.Omega.{arith}
 use Rattle.interpreter.proofs.free_rooms.Given as goal
 
 abbrev pub invariant-loop-j : goal.invariant-loop-j

@@ -3,7 +3,6 @@ use Prim.Native.Nat.{ℕ}
 use mathlib.Core.List.{List}
 use Rattle.table.specs.Rows.{row_at}
 use Rattle.declarations.specs.Program.{code_of}
-use borrow.Author.Rules.{rules}
 use Rattle.interpreter.proofs.instruction_at.Goals as goal
 
 pub returns : goal.returns

@@ -1,4 +1,3 @@
-use borrow.Author.Rules.{rules}
 use Rattle.interpreter.proofs.keep_memory.Goals as goal
 
 pub returns : goal.returns

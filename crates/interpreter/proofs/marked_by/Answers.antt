@@ -1,6 +1,5 @@
 use mathlib.Core.Path.{refl}
 use borrow.Author.Tests.{ne_eqb}
-use borrow.Author.Rules.{rules}
 use Rattle.interpreter.specs.code.Run.{changes_memory}
 use Rattle.interpreter.proofs.marked_by.Goals as goal
 

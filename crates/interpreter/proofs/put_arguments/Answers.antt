@@ -1,13 +1,11 @@
-use Prim.Native.Nat.{ℕ, ◌+◌, ◌-◌, ◌≤◌, ◌<◌}
+use Prim.Native.Nat.{ℕ, ◌+◌, ◌-◌, ◌<◌}
 use mathlib.Core.Path.{◌≡◌, refl, ap, sym, ◌∙◌}
 use mathlib.Core.List.{List}
-use lib.ListN.{length, get_or, drop}
+use lib.ListN.{length, get_or}
 use Rattle.table.specs.declared.Row.{Row}
 use Rattle.table.specs.Rows.{row_at, row_count}
-use Rattle.semantics.specs.Calls.{arguments}
 use Rattle.calls.proofs.Laws.{argument-at, arguments-end}
 use Rattle.state.specs.code.Coding.{values, value_of}
-use Rattle.state.specs.code.Cells.{cells_of}
 use Rattle.interpreter.specs.code.Calls.{filled}
 use Rattle.interpreter.proofs.Keeping.{filled_more, filled-done}
 use borrow.Author.Rules.{rules}

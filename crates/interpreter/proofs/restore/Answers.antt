@@ -1,6 +1,5 @@
 use mathlib.Core.Path.{refl}
 use borrow.Author.Tests.{eq-eqb, ne_eqb}
-use borrow.Author.Rules.{rules}
 use Rattle.interpreter.proofs.restore.Goals as goal
 
 pub returns-then-ran : goal.returns-then-ran

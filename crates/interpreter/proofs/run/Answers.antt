@@ -3,11 +3,9 @@ use mathlib.Core.Path.{◌≡◌, refl, ◌∙◌}
 use mathlib.Core.Bool.{Bool, cond, false}
 use mathlib.Core.List.{List}
 use lib.Dec.{eqb}
-use lib.ListN.{length}
 use Rattle.table.specs.declared.index.Index.{Index}
 use Rattle.state.specs.declared.Operand.{Operand}
 use Rattle.state.specs.declared.frames.State.{State}
-use Rattle.state.specs.code.Cells.{cells_of}
 use Rattle.interpreter.specs.code.Run.{same_by, run_from, same_from}
 use Rattle.interpreter.proofs.Loops.{run_ends, run_on, run_spent, same_ends, same-on, same-spent}
 use native.Mathlib.Omega.{arith}

@@ -1,5 +1,4 @@
 use Rattle.running.proofs.Laws.{line-is}
-use borrow.Author.Rules.{rules}
 use Rattle.running.proofs.put_call.Goals as goal
 
 pub returns : goal.returns

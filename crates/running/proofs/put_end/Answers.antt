@@ -3,7 +3,6 @@ use borrow.Author.Tests.{eq-eqb, ne_eqb}
 use Rattle.semantics.specs.Machine.{state}
 use Rattle.text.proofs.Placing.{puts_none}
 use Rattle.running.specs.code.Lists.{end_line}
-use borrow.Author.Rules.{rules}
 use Rattle.running.proofs.put_end.Goals as goal
 
 pub returns-then-stop-eq-DONE : goal.returns-then-stop-eq-DONE

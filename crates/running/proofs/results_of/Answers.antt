@@ -1,5 +1,4 @@
 use borrow.Author.Tests.{lt-leb, le-leb}
-use borrow.Author.Rules.{rules}
 use Rattle.running.proofs.results_of.Goals as goal
 
 pub returns-then-h-k : goal.returns-then-h-k

@@ -1,13 +1,10 @@
-use Prim.Native.Nat.{ℕ, ◌-◌, ◌≤◌}
+use Prim.Native.Nat.{ℕ}
 use mathlib.Core.Path.{◌≡◌, refl, ap, ◌∙◌}
 use lib.ListN.{length, replicate, length-replicate}
-use Rattle.table.specs.Rows.{row_count}
 use Rattle.table.proofs.Laws.{is-kind, not-kind}
 use Rattle.semantics.specs.Calls.{call_row}
 use Rattle.text.specs.code.Placing.{placed}
-use Rattle.state.specs.code.Cells.{cells_of}
-use Rattle.running.specs.code.Lists.{text_in}
-use Rattle.running.proofs.Laws.{text_at, text_call, text_other, text_start, text_done}
+use Rattle.running.proofs.Laws.{text_call, text_other, text_start, text_done}
 use borrow.Author.Rules.{rules}
 use native.Mathlib.Omega.{arith}
 use Rattle.running.proofs.run_calls.Goals as goal

@@ -1,15 +1,11 @@
-use Prim.Native.Nat.{ℕ, ◌-◌, ◌≤◌}
-use mathlib.Core.Path.{◌≡◌, refl, ap, ◌∙◌}
-use lib.ListN.{length, replicate, length-replicate}
+use Prim.Native.Nat.{◌-◌, ◌≤◌}
+use mathlib.Core.Path.{◌≡◌}
+use lib.ListN.{length}
 use Rattle.table.specs.Rows.{row_count}
-use Rattle.table.proofs.Laws.{is-kind, not-kind}
-use Rattle.semantics.specs.Calls.{call_row}
 use Rattle.text.specs.code.Placing.{placed}
 use Rattle.state.specs.code.Cells.{cells_of}
 use Rattle.running.specs.code.Lists.{text_in}
-use Rattle.running.proofs.Laws.{text_at, text_call, text_other, text_start, text_done}
-use borrow.Author.Rules.{rules}
-use native.Mathlib.Omega.{arith}
+use Rattle.running.proofs.Laws.{text_at}
 use Rattle.running.proofs.run_calls.Given as goal
 
 abbrev pub invariant-loop-i : goal.invariant-loop-i

@@ -1,7 +1,6 @@
 use mathlib.Core.Path.{sym, ◌∙◌}
 use Rattle.running.proofs.Runs.{table-refused, list_refused, buffer-refused, runs}
 use native.Mathlib.Omega.{arith}
-use borrow.Author.Rules.{rules}
 use Rattle.running.proofs.run_list.Goals as goal
 
 pub returns-in-Refused : goal.returns-in-Refused

@@ -1,6 +1,5 @@
 use Rattle.step.specs.code.Step.{turns, turn_of}
 use Rattle.step.proofs.Paths.{past_all}
-use borrow.Author.Rules.{rules}
 use mathlib.Core.Path.{sym}
 use Rattle.laws.proofs.Cases.{above}
 use Rattle.table.specs.Format.{past_opcodes}

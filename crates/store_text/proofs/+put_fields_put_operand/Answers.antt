@@ -1,6 +1,5 @@
-use Rattle.std.proofs.Common.{ℕ, ◌+◌, ◌-◌, ◌<◌, ◌≡◌, [], ◌∷◌, sym, ap, length, get_or, arith, rules}
+use Rattle.std.proofs.Common.{ℕ, ◌+◌, ◌-◌, ◌<◌, ◌≡◌, [], ◌∷◌, sym, ap, get_or, arith, rules}
 use mathlib.Core.Path.{refl, ◌∙◌}
-use mathlib.Core.List.{append-nil}
 use Rattle.semantics.specs.Ascii.{ascii}
 use Rattle.state.specs.code.Cells.{cells_of}
 use Rattle.state.specs.declared.Operand.{Operand}

@@ -1,6 +1,5 @@
 -- `store_text::put_entries` meets its contract: as many numbers are lent as there are entries to print.
 use native.Mathlib.Omega.{arith}
-use borrow.Author.Rules.{rules}
 use Prim.Native.Nat.{ℕ, ◌<◌}
 use mathlib.Core.Path.{◌≡◌, sym}
 use lib.ListN.{length, take, replicate}

@@ -1,5 +1,4 @@
 -- `store_text::put_entry` meets its contract: the parts of the line, one after the other.
-use borrow.Author.Rules.{rules}
 use Rattle.semantics.specs.Ascii.{ascii}
 use Rattle.store_text.proofs.Laws.{entry-line}
 use Rattle.store_text.proofs.put_entry.Goals as goal

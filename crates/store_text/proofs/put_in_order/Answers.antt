@@ -1,5 +1,4 @@
 -- `store_text::put_in_order` meets its contract: the lines of the numbers in order are those of the entries in order.
-use borrow.Author.Rules.{rules}
 use Rattle.store_text.proofs.Sorting.{entries-in-order}
 use Rattle.store_text.proofs.put_in_order.Goals as goal
 

@@ -1,16 +1,12 @@
 use native.Mathlib.Omega.{arith}
 use borrow.Author.Rules.{rules}
-use Prim.Native.Nat.{ℕ, ◌-◌}
-use mathlib.Core.Path.{◌≡◌, refl, ◌∙◌}
-use mathlib.Core.List.{List, map}
-use lib.ListN.{length, get_or, drop}
+use mathlib.Core.Path.{refl, ◌∙◌}
+use lib.ListN.{get_or}
 use Rattle.state.specs.code.Cells.{cells_of}
-use Rattle.machine.specs.code.Lists.{mentry_line, mentry_lines}
+use Rattle.machine.specs.code.Lists.{mentry_line}
 use Rattle.machine.specs.code.Views.{rooms_in, entry_in}
-use Rattle.text.specs.code.Placing.{placed}
 use Rattle.text.proofs.Placing.{Puts}
 use Rattle.store_text.proofs.Laws.{lines_more, lines-done}
-use Rattle.store_text.proofs.put_lines.Invariants.{lines}
 use Rattle.store_text.proofs.put_lines.Goals as goal
 
 pub loop-i-init : goal.loop-i-init

@@ -1,16 +1,12 @@
 -- `store_text::put_lines` meets its contract. The lines of the entries from number i on are left.
-use native.Mathlib.Omega.{arith}
-use borrow.Author.Rules.{rules}
 use Prim.Native.Nat.{ℕ, ◌-◌}
-use mathlib.Core.Path.{◌≡◌, refl, ◌∙◌}
+use mathlib.Core.Path.{◌≡◌}
 use mathlib.Core.List.{List, map}
-use lib.ListN.{length, get_or, drop}
+use lib.ListN.{length, drop}
 use Rattle.state.specs.code.Cells.{cells_of}
-use Rattle.machine.specs.code.Lists.{mentry_line, mentry_lines}
+use Rattle.machine.specs.code.Lists.{mentry_lines}
 use Rattle.machine.specs.code.Views.{rooms_in, entry_in}
 use Rattle.text.specs.code.Placing.{placed}
-use Rattle.text.proofs.Placing.{Puts}
-use Rattle.store_text.proofs.Laws.{lines_more, lines-done}
 use Rattle.store_text.proofs.put_lines.Given as goal
 
 -- the lines of some entries

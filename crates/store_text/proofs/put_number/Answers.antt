@@ -1,5 +1,4 @@
 -- `store_text::put_number` meets its contract: a space, and then the number.
-use borrow.Author.Rules.{rules}
 use Rattle.semantics.specs.Ascii.{ascii}
 use Rattle.semantics.specs.Text.{decimal}
 use Rattle.text.proofs.Placing.{puts_more}

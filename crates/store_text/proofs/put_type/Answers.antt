@@ -1,5 +1,4 @@
 -- `store_text::put_type` meets its contract: the space and the parenthesis, and then the type.
-use borrow.Author.Rules.{rules}
 use Rattle.semantics.specs.Ascii.{ascii}
 use Rattle.semantics.specs.Text.{decimal}
 use Rattle.text.proofs.Placing.{puts_more}

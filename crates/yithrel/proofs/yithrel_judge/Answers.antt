@@ -2,7 +2,6 @@ use Rattle.judging.proofs.Under.{under_small}
 use Rattle.judging.specs.Judging.{answer_of}
 use Prim.Native.Nat.{◌≤◌}
 use native.Mathlib.Omega.{arith}
-use borrow.Author.Rules.{rules}
 use Rattle.yithrel.proofs.yithrel_judge.Goals as goal
 
 pub overflow_add-result : goal.overflow_add-result

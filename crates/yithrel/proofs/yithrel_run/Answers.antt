@@ -2,7 +2,6 @@ use Prim.Native.Nat.{◌≤◌}
 use native.Mathlib.Omega.{arith}
 use Rattle.judging.specs.Judging.{answer_of}
 use Rattle.running.proofs.Values.{run_small}
-use borrow.Author.Rules.{rules}
 use Rattle.yithrel.proofs.yithrel_run.Goals as goal
 
 pub overflow_add-result : goal.overflow_add-result

@@ -1,5 +1,4 @@
-use borrow.Author.Rules.{rules}
-use borrow.Author.Tests.{not-true, not-false, eq-eqb, ne_eqb}
+use borrow.Author.Tests.{eq-eqb, ne_eqb}
 use Rattle.frame.proofs.control.branch_cond.Goals as goal
 
 pub returns-then-not-has_number : goal.returns-then-not-has_number

@@ -1,5 +1,4 @@
 use Rattle.state.specs.code.Coding.{value_of, values}
-use borrow.Author.Rules.{rules}
 use Rattle.frame.proofs.operations.close.Goals as goal
 
 pub returns-in-Value : goal.returns-in-Value

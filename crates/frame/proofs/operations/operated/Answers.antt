@@ -2,8 +2,6 @@ use Prim.Native.Nat.{ℕ}
 use mathlib.Core.Path.{◌≡◌, ap, ◌∙◌}
 use Rattle.arithmetic.specs.declared.Calculated.{Calculated}
 use Rattle.arithmetic.specs.Arithmetic.{calculation}
-use borrow.Author.Rules.{rules}
-use borrow.Author.Tests.{not-true, not-false}
 use Rattle.frame.proofs.operations.operated.Goals as goal
 
 same : (b : ℕ) {x x' y y' : ℕ} {r : Calculated} → r ≡ calculation b x y → x ≡ x' → y ≡ y' → r ≡ calculation b x' y'

@@ -1,6 +1,5 @@
 use Prim.Native.Nat.{ℕ, ◌%◌}
 use Rattle.declarations.specs.Program.{row_kind, local_kind}
-use borrow.Author.Rules.{rules}
 use mathlib.Core.Path.{ap, ◌∙◌}
 use Rattle.frame.proofs.stack.kind_of_local.Goals as goal
 

@@ -1,5 +1,4 @@
 use Rattle.state.specs.code.Coding.{value_of, values}
-use borrow.Author.Rules.{rules}
 use Rattle.frame.proofs.stack.load_const.Goals as goal
 
 pub returns : goal.returns

@@ -1,4 +1,3 @@
-use borrow.Author.Rules.{rules}
 use Rattle.frame.proofs.stack.move_local.Goals as goal
 
 pub returns : goal.returns

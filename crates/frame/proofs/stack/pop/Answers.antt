@@ -1,5 +1,4 @@
 use Rattle.state.specs.code.Frames.{gone_on}
-use borrow.Author.Rules.{rules}
 use mathlib.Core.Path.{ap, ◌∙◌}
 use Rattle.frame.proofs.stack.pop.Goals as goal
 

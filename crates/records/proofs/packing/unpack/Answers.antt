@@ -1,4 +1,3 @@
-use borrow.Author.Rules.{rules}
 use Rattle.records.proofs.packing.unpack.Goals as goal
 
 pub returns-in-Empty : goal.returns-in-Empty

@@ -1,6 +1,4 @@
-use borrow.Author.Rules.{rules}
 use native.Mathlib.Omega.{arith}
-use borrow.Author.Tests.{not-true, not-false}
 use Rattle.records.proofs.packing.unpack_from.Goals as goal
 
 pub returns-then-not-is_live : goal.returns-then-not-is_live

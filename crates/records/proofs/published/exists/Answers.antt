@@ -1,5 +1,3 @@
-use borrow.Author.Rules.{rules}
-use borrow.Author.Tests.{not-true, not-false}
 use Rattle.state.specs.code.Coding.{value_of, values}
 use Rattle.records.proofs.published.exists.Goals as goal
 

@@ -1,5 +1,3 @@
-use borrow.Author.Rules.{rules}
-use borrow.Author.Tests.{not-true, not-false}
 use Rattle.records.proofs.published.move_to.Goals as goal
 
 pub returns-then-not-has_number : goal.returns-then-not-has_number

@@ -1,4 +1,3 @@
-use borrow.Author.Rules.{rules}
 use Rattle.references.proofs.targets.borrow_field.Goals as goal
 
 pub returns-in-Number : goal.returns-in-Number

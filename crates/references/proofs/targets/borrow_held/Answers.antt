@@ -1,4 +1,3 @@
-use borrow.Author.Rules.{rules}
 use Rattle.references.proofs.targets.borrow_held.Goals as goal
 
 pub returns-then-is_number : goal.returns-then-is_number

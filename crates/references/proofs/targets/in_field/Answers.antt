@@ -1,5 +1,3 @@
-use borrow.Author.Rules.{rules}
-use borrow.Author.Tests.{not-true, not-false}
 use Rattle.references.proofs.targets.in_field.Goals as goal
 
 pub returns-then-not-is_live : goal.returns-then-not-is_live

@@ -1,4 +1,3 @@
-use borrow.Author.Rules.{rules}
 use Rattle.references.proofs.targets.in_local.Goals as goal
 
 pub returns-in-Empty : goal.returns-in-Empty

@@ -1,4 +1,3 @@
-use borrow.Author.Rules.{rules}
 use Rattle.references.proofs.targets.in_room.Goals as goal
 
 pub returns-then-is_live : goal.returns-then-is_live

@@ -1,5 +1,4 @@
 use Rattle.state.proofs.Tests.{tests}
-use borrow.Author.Rules.{rules}
 use borrow.Author.Tests.{lt-ltb, eq-eqb, ne_eqb}
 use Rattle.references.proofs.targets.local_cell.Goals as goal
 

@@ -1,4 +1,3 @@
-use borrow.Author.Rules.{rules}
 use Rattle.state.specs.code.Coding.{values, value_of}
 use Rattle.references.proofs.targets.read_ref.Goals as goal
 

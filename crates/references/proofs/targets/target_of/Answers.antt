@@ -1,4 +1,3 @@
-use borrow.Author.Rules.{rules}
 use Rattle.references.proofs.targets.target_of.Goals as goal
 
 pub returns-in-Local : goal.returns-in-Local

@@ -1,5 +1,4 @@
 use Rattle.state.specs.code.Coding.{value_of, values}
-use borrow.Author.Rules.{rules}
 use Rattle.references.proofs.targets.write_at.Goals as goal
 
 pub returns-in-Number : goal.returns-in-Number
