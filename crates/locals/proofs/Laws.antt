@@ -18,8 +18,7 @@ use Rattle.reach.proofs.Laws.{length-mark}
 use Rattle.reach.proofs.Settle.{settle-iter}
 use Rattle.reach.proofs.Search.{search-one, taken, finish, tail-le, queued-below}
 use Rattle.table.specs.declared.Row.{Row}
-use Rattle.table.specs.declared.Verdict.{Verdict}
-use Rattle.table.specs.declared.Verdict.TheVariants.{Accepted, Refused}
+use Rattle.table.specs.Verdicts.{Verdict, Accepted, Refused}
 use Rattle.table.specs.declared.index.ProcedureEntry.{ProcedureEntry}
 use Rattle.table.specs.Format.{op_mv_loc, op_cp_loc, op_st_loc, op_borrow_loc, op_ret}
 use Rattle.table.specs.Rows.{row_count, row_at}

@@ -17,12 +17,11 @@ use Rattle.laws.proofs.First.{first-same}
 use Rattle.laws.proofs.Lists.{is-tabulate, get_d_tabulate, length-tabulate, hits_skip}
 use Rattle.laws.proofs.Tests.{and_both, both_and, same_test, test_fails}
 use Rattle.table.specs.declared.Row.{Row}
-use Rattle.table.specs.declared.Verdict.TheVariants.{Accepted, Refused}
+use Rattle.table.specs.Verdicts.{Accepted, Refused, value_of}
 use Rattle.table.specs.declared.index.Index.{Index}
 use Rattle.table.specs.declared.index.ProcedureEntry.{ProcedureEntry}
 use Rattle.table.specs.Format.{op_call}
 use Rattle.table.specs.Refusals.{forbidden_call}
-use Rattle.table.specs.Verdicts.{value_of}
 use Rattle.table.specs.Rows.{row_count, row_at, row_from}
 use Rattle.table.proofs.Laws.{row_inside}
 use Rattle.declarations.specs.Program.{procedure_in, code_pass}

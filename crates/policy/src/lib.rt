@@ -2,7 +2,7 @@
 #![tactic(auto)]
 
 ghost use Rattle.std.specs.Prelude.{◌≡◌, ◌<◌, ◌≤◌, length, false};
-ghost use Rattle.table.specs.declared.Verdict.TheVariants.{Accepted};
+ghost use Rattle.table.specs.Verdicts.{Accepted};
 ghost use Rattle.table.specs.Rows.{row_count};
 ghost use Rattle.declarations.specs.Program.{code_verdict};
 ghost use Rattle.policy.specs.Policy.{bad_range, bad_rule, file_of, rules_with};

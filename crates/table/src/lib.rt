@@ -4,7 +4,6 @@
 ghost use Rattle.std.specs.Prelude.{◌≡◌, ◌+◌, ◌*◌, ◌≤◌, ◌<◌, length};
 ghost use Rattle.laws.specs.Numbers.{le};
 ghost use Rattle.table.specs.Rows.{row_at, kind_at};
-ghost use Rattle.table.specs.Verdicts.{number_of, value_of};
 
 pub mod format;
 pub mod index;
@@ -30,37 +29,6 @@ impl Row {
         c: 0,
         d: 0,
     };
-}
-
-// What judging a table, or a pass over it, answers.
-#[derive(Clone, Copy)]
-pub enum Verdict {
-    // Accepted, with the number of rows.
-    Accepted(usize),
-    // The number of the refusal, and its row.
-    Refused(u8, usize),
-}
-
-impl Verdict {
-    // Document 01's number: 0 where the table is accepted.
-    pub fn number(self) -> u8
-        ensures { result ≡ number_of self }
-    {
-        match self {
-            Verdict::Accepted(_) => 0,
-            Verdict::Refused(number, _) => number,
-        }
-    }
-
-    // Document 01's value: the number of rows, or the refused row.
-    pub fn value(self) -> usize
-        ensures { result ≡ value_of self }
-    {
-        match self {
-            Verdict::Accepted(rows) => rows,
-            Verdict::Refused(_, row) => row,
-        }
-    }
 }
 
 // The little-endian numbers of two, four and eight bytes at o.

@@ -1,7 +1,7 @@
 use Rattle.locals.specs.code.Faults.{fault_from}
 use Rattle.declarations.specs.Program.{code_verdict}
 use Rattle.table.specs.Rows.{row_at, row_count}
-use Rattle.table.specs.declared.Verdict.TheVariants.{Accepted, Refused}
+use Rattle.table.specs.Verdicts.{Accepted, Refused}
 use Rattle.laws.proofs.First.{fine, faulty_with, done, whole}
 use Prim.Native.Nat.{ℕ, ◌+◌}
 use mathlib.Core.Path.{◌≡◌, sym, ◌∙◌}

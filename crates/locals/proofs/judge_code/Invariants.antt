@@ -2,7 +2,7 @@
 use Rattle.locals.specs.code.Faults.{fault_from}
 use Rattle.declarations.specs.Program.{code_verdict}
 use Rattle.table.specs.Rows.{row_at}
-use Rattle.table.specs.declared.Verdict.TheVariants.{Accepted, Refused}
+use Rattle.table.specs.Verdicts.{Accepted, Refused}
 use Rattle.laws.proofs.First.{from}
 use Prim.Native.Nat.{ℕ, ◌+◌, ◌-◌, ◌≤◌}
 use mathlib.Core.Path.{◌≡◌}

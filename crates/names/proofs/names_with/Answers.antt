@@ -6,7 +6,7 @@ use lib.ListN.{length, get_or-eq_default}
 use Rattle.laws.specs.Lists.{count, hits}
 use Rattle.laws.proofs.First.{fine, faulty_with, done, whole}
 use Rattle.laws.proofs.Lists.{count-few}
-use Rattle.table.specs.declared.Verdict.TheVariants.{Accepted, Refused}
+use Rattle.table.specs.Verdicts.{Accepted, Refused}
 use Rattle.table.specs.Format.{type_kind, procedure_kind}
 use Rattle.table.specs.Rows.{is_kind}
 use Rattle.declarations.specs.Program.{type_in, procedure_in}

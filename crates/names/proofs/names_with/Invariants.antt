@@ -3,7 +3,7 @@ use Prim.Native.Nat.{◌≤◌, ◌-◌}
 use mathlib.Core.Path.{◌≡◌}
 use Rattle.laws.specs.Lists.{count}
 use Rattle.laws.proofs.First.{from}
-use Rattle.table.specs.declared.Verdict.TheVariants.{Accepted, Refused}
+use Rattle.table.specs.Verdicts.{Accepted, Refused}
 use Rattle.table.specs.Format.{type_kind, procedure_kind}
 use Rattle.table.specs.Rows.{is_kind}
 use Rattle.declarations.specs.Program.{procedure_in}

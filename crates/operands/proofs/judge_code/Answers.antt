@@ -5,7 +5,7 @@ use mathlib.Core.List.{[]}
 use native.Mathlib.Omega.{arith}
 use lib.ListN.{length, get_or-eq_default}
 use Rattle.laws.proofs.First.{fine, faulty_with, done, whole}
-use Rattle.table.specs.declared.Verdict.TheVariants.{Accepted, Refused}
+use Rattle.table.specs.Verdicts.{Accepted, Refused}
 use Rattle.declarations.specs.Program.{type_in, procedure_in, code_verdict}
 use Rattle.effects.specs.Kinds.{view, good, top_first}
 use Rattle.operands.specs.Operands.{code_fault, kinds_before}

@@ -2,7 +2,7 @@
 use Prim.Native.Nat.{ℕ, ◌≤◌, ◌-◌, ◌+◌}
 use mathlib.Core.Path.{◌≡◌}
 use Rattle.laws.proofs.First.{from}
-use Rattle.table.specs.declared.Verdict.TheVariants.{Accepted, Refused}
+use Rattle.table.specs.Verdicts.{Accepted, Refused}
 use Rattle.declarations.specs.Program.{code_verdict}
 use Rattle.effects.specs.Kinds.{view}
 use Rattle.operands.specs.Operands.{code_fault, kinds_before}

@@ -5,7 +5,7 @@ use native.Mathlib.Omega.{arith}
 use borrow.Author.Tests.{lt-ltb, le-ltb, eq-eqb, ne_eqb}
 use lib.ListN.{length}
 use Rattle.laws.proofs.First.{fine, faulty_with, done, whole}
-use Rattle.table.specs.declared.Verdict.TheVariants.{Accepted, Refused}
+use Rattle.table.specs.Verdicts.{Accepted, Refused}
 use Rattle.policy.specs.Policy.{rule_fault, file_of}
 use Rattle.policy.proofs.file_verdict.Goals as goal
 

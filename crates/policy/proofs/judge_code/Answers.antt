@@ -4,7 +4,7 @@ use mathlib.Core.Bool.{cond, not}
 use native.Mathlib.Omega.{arith}
 use lib.ListN.{length, get_or-eq_default}
 use Rattle.laws.proofs.First.{fine, faulty_with, done, whole}
-use Rattle.table.specs.declared.Verdict.TheVariants.{Accepted, Refused}
+use Rattle.table.specs.Verdicts.{Accepted, Refused}
 use Rattle.declarations.specs.Program.{procedure_in, code_verdict}
 use Rattle.policy.specs.code.Grid.{forbidden_in}
 use Rattle.policy.proofs.Laws.{other_fault, call-fault}

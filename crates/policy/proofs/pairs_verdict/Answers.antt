@@ -3,7 +3,7 @@ use mathlib.Core.Path.{◌≡◌, sym, ◌∙◌}
 use native.Mathlib.Omega.{arith}
 use borrow.Author.Tests.{le-ltb}
 use Rattle.laws.proofs.First.{fine, faulty_with, done, whole, clean_from}
-use Rattle.table.specs.declared.Verdict.TheVariants.{Accepted, Refused}
+use Rattle.table.specs.Verdicts.{Accepted, Refused}
 use Rattle.policy.specs.code.Grid.{unruled_in, pairs_in}
 use Rattle.policy.proofs.pairs_verdict.Goals as goal
 

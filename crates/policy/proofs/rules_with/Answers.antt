@@ -1,5 +1,5 @@
 use mathlib.Core.Path.{sym, ap, ◌∙◌}
-use Rattle.table.specs.declared.Verdict.TheVariants.{Accepted}
+use Rattle.table.specs.Verdicts.{Accepted}
 use Rattle.policy.specs.Policy.{rules_with}
 use Rattle.policy.proofs.Laws.{rules_count, grid_none, pairs-same, calls_same}
 use Rattle.policy.proofs.rules_with.Goals as goal

@@ -1,13 +1,12 @@
 -- What the code's buffer holds, and no rule: for each pair of modules, 16 times caller plus called, how it stands.
 use Rattle.std.specs.Prelude.{ℕ, ◌+◌, ◌*◌, ◌/◌, ◌%◌, Bool, cond, not, ◌&&◌, ◌||◌, List, [], ◌∷◌, eqb, ltb, leb, length, get_or}
 use Rattle.laws.specs.Lists.{hits, tabulate}
-use Rattle.table.specs.declared.Verdict.{Verdict}
+use Rattle.table.specs.Verdicts.{Verdict, pass_over}
 use Rattle.table.specs.declared.index.Index.{Index}
 use Rattle.table.specs.declared.index.ProcedureEntry.{ProcedureEntry}
 use Rattle.table.specs.Format.{max_modules, op_call}
 use Rattle.table.specs.Refusals.{unruled_pair, forbidden_call}
 use Rattle.table.specs.Rows.{row_count, row_at}
-use Rattle.table.specs.Verdicts.{pass_over}
 use Rattle.declarations.specs.Program.{procedure_in, code_of, code_pass}
 use Rattle.policy.specs.Policy.{allows, covers}
 

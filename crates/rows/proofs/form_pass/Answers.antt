@@ -1,6 +1,5 @@
 use Rattle.rows.specs.Rows.{form_of, rows_of}
-use Rattle.table.specs.Verdicts.{and_then}
-use Rattle.table.specs.declared.Verdict.{Verdict}
+use Rattle.table.specs.Verdicts.{Verdict, and_then}
 use mathlib.Core.Path.{ap, ◌∙◌}
 use Rattle.rows.proofs.form_pass.Goals as goal
 

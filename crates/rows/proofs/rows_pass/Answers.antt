@@ -1,6 +1,6 @@
 use Rattle.rows.proofs.Laws.{fits_below}
 use Rattle.rows.specs.Rows.{rows_of, fault_at, above_at}
-use Rattle.table.specs.declared.Verdict.TheVariants.{Accepted, Refused}
+use Rattle.table.specs.Verdicts.{Accepted, Refused}
 use Rattle.laws.proofs.First.{fine, faulty_with, done, whole}
 use native.Mathlib.Numerals.{add-one}
 use lib.ListN.{length}

@@ -1,5 +1,5 @@
 use Rattle.rows.specs.Rows.{rows_of, fault_at, above_at}
-use Rattle.table.specs.declared.Verdict.TheVariants.{Accepted, Refused}
+use Rattle.table.specs.Verdicts.{Accepted, Refused}
 use Rattle.laws.proofs.First.{from}
 use mathlib.Core.Path.{◌≡◌}
 use Prim.Native.Nat.{◌≤◌, ◌-◌}
