@@ -1,5 +1,5 @@
 -- What judging answers, and how passes are put together (document 01, "Judging").
-use Rattle.std.specs.Prelude.{ℕ, Result, Ok, Err, Option, Some, None}
+use Rattle.std.specs.Prelude.{ℕ, List, ◌++◌, Result, Ok, Err, Option, Some, None, codes, decimal}
 use Rattle.laws.specs.First.{first_fault}
 use Rattle.table.specs.declared.refusals.Reason.{Reason}
 use Rattle.table.specs.declared.refusals.Reason.TheVariants.{BadLength, BadPlace, OverLimit, DirtyByte, WrongValue, WrongGuard, OpenEnd, NotDeclared, WrongOperand, TooManyOperands, OperandsLeft, ForeignName, EmptyLocal, LostRecord, MarkGiven, MarkReturned, BadRules, UnruledPair, ForbiddenCall, BadList, BadCall, SmallBuffer}
@@ -57,6 +57,10 @@ number_of_reason SmallBuffer = small_buffer
 
 abbrev pub refusal_at : Reason → ℕ → Refusal
 refusal_at reason row = record { reason = reason; row = row }
+
+-- the words of a refusal: its number and its row
+abbrev pub refused_text : Refusal → List ℕ
+refused_text refusal = codes "refused " ++ decimal (number_of_reason refusal.reason) ++ codes " row " ++ decimal refusal.row
 
 -- the verdict that the code's result stands for
 abbrev pub verdict_of : Result ℕ Refusal → Verdict

@@ -1,6 +1,6 @@
 // Why a table, a rule file, a list of calls or a buffer is refused (documents 01 and 02), pass by pass. specs/Refusals.antt has the same names for the rules.
-ghost use Rattle.std.specs.Prelude.{◌≡◌};
-ghost use Rattle.table.specs.Verdicts.{number_of, value_of, number_of_reason, refusal_at, verdict_of};
+ghost use Rattle.std.specs.Prelude.{◌≡◌, Some};
+ghost use Rattle.table.specs.Verdicts.{number_of, value_of, number_of_reason, refusal_at, refused_text, verdict_of};
 
 use std::error::Error;
 use std::fmt;
@@ -63,9 +63,13 @@ pub struct Refusal {
     pub row: usize,
 }
 
+// As the programs print it.
 impl fmt::Display for Refusal {
+    ghost output = { λ x. Some (refused_text x) };
+
     fn fmt<W: fmt::Write>(&self, f: &mut fmt::Formatter<W>) -> fmt::Result {
-        write!(f, "refused {} row {}", self.reason.number(), self.row)
+        let number = self.reason.number();
+        write!(f, "refused {number} row {}", self.row)
     }
 }
 
