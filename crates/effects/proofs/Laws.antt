@@ -102,6 +102,8 @@ module _ (ks : List ℕ) where
   fault_is (suc h) None last other = rw suc-eqb
   fault_is h (Some r) last other = rw bad_for
 
+pub ruleset views = (fail_is, top-is, take-is, push-is, fault_is)
+
 -- the kinds that rows declare
 module _ (t : List ℕ) (from to : ℕ) where
   pub kinds-none : to ≤ from → kinds_of t from to ≡ []

@@ -35,6 +35,7 @@ fn kind_at(kinds: &[u32; 16], at: u8) -> u32
     kinds.get(at as usize).copied().unwrap_or(0)
 }
 
+#[tactic(auto, using(crate::proofs::Laws::views))]
 impl Stack {
     pub const EMPTY: Stack = Stack {
         height: 0,
@@ -45,7 +46,10 @@ impl Stack {
     fn fail(self, reason: Reason) -> Self
         ensures { (ks : List ℕ) → view ks result ≡ failed (number_of_reason reason) (view ks self) }
     {
-        Stack { fault: self.fault.or(Some(reason)), ..self }
+        Stack {
+            fault: self.fault.or(Some(reason)),
+            ..self
+        }
     }
 
     // Takes one operand of kind k.
@@ -110,6 +114,33 @@ impl Stack {
         stack
     }
 
+    // The fault that a row earns with this stack after it.
+    pub fn fault_after(self, last: bool, other: bool) -> Option<Reason>
+        ensures { (ks : List ℕ) → fault_of result ≡ fault_after (view ks self) last other }
+    {
+        if self.fault.is_some() {
+            self.fault
+        } else if last && self.height != 0 {
+            Some(Reason::OperandsLeft)
+        } else if other {
+            Some(Reason::ForeignName)
+        } else {
+            None
+        }
+    }
+
+    // The stack of the next row: none at the start of a block.
+    #[tactic(auto, unfolding(crate::specs::Kinds::top_first))]
+    pub fn next(self, last: bool) -> Self
+        ensures { (ks : List ℕ) → view ks result ≡ cond last (good []) (view ks self) }
+    {
+        if last { Stack::EMPTY } else { self }
+    }
+}
+
+// What each instruction does.
+#[tactic(auto, unfolding(crate::specs::Effects::applied, crate::specs::Kinds::taken_all, crate::specs::Kinds::pushed_all, declarations::specs::Program::field_kinds, declarations::specs::Program::parameter_kinds, declarations::specs::Program::result_kinds))]
+impl Stack {
     // Pop: a number or a reference.
     fn pop(self, kinds: &[u32; 16]) -> Self
         ensures { view kinds.now result ≡ applied (effect_if (not (is_record (top_of (view kinds.now self)))) (top_of (view kinds.now self) ∷ []) []) (view kinds.now self) }
@@ -324,31 +355,10 @@ impl Stack {
             format::PAST_OPCODES..=255 => self.fail(Reason::WrongOperand),
         }
     }
-
-    // The fault that a row earns with this stack after it.
-    pub fn fault_after(self, last: bool, other: bool) -> Option<Reason>
-        ensures { (ks : List ℕ) → fault_of result ≡ fault_after (view ks self) last other }
-    {
-        if self.fault.is_some() {
-            self.fault
-        } else if last && self.height != 0 {
-            Some(Reason::OperandsLeft)
-        } else if other {
-            Some(Reason::ForeignName)
-        } else {
-            None
-        }
-    }
-
-    // The stack of the next row: none at the start of a block.
-    pub fn next(self, last: bool) -> Self
-        ensures { (ks : List ℕ) → view ks result ≡ cond last (good []) (view ks self) }
-    {
-        if last { Stack::EMPTY } else { self }
-    }
 }
 
 // The kind of local b of a procedure.
+#[tactic(auto, unfolding(declarations::specs::Program::local_kind))]
 fn local_kind(table: &[u8], p: ProcedureEntry, b: u16) -> u32
     ensures { result ≡ local_kind table.now p b }
 {
@@ -361,5 +371,9 @@ fn field_reference(table: &[u8], y: TypeEntry, b: u16, top: u32) -> u32
 {
     let row = table::row_at(table, (y.row as usize) + 1 + ((b % 8) as usize));
     let kind = declarations::row_kind(row) + 2;
-    if declarations::is_writable(top) { kind } else { kind + 2 }
+    if declarations::is_writable(top) {
+        kind
+    } else {
+        kind + 2
+    }
 }

@@ -1,4 +1,4 @@
-use mathlib.Core.Path.{refl, sym, ◌∙◌}
+use mathlib.Core.Path.{sym, ◌∙◌}
 use Rattle.effects.specs.Kinds.{pushed_all}
 use Rattle.effects.proofs.Laws.{kinds-none, kinds-first}
 use Rattle.effects.proofs.Stack.push_rows.Goals as goal
