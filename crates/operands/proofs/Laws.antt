@@ -1,5 +1,5 @@
 -- Laws of jump targets and of blocks.
-use Prim.Native.Nat.{ℕ, zero, suc, ◌+◌, ◌/◌, ◌<◌, ◌≤◌, min}
+use Prim.Native.Nat.{ℕ, zero, suc, ◌+◌, ◌<◌, ◌≤◌, min}
 use mathlib.Core.Path.{◌≡◌, refl, sym, ap, ◌∙◌}
 use mathlib.Core.Bool.{Bool, true, false, cond, ◌||◌, or-true, or-false, and-false}
 use mathlib.Core.List.{List, []}
@@ -26,7 +26,7 @@ use Rattle.declarations.proofs.Laws.{target_more, procedures_of, pass_from, pass
 use Rattle.table.specs.declared.index.Index.{Index}
 use Rattle.table.specs.declared.index.TypeEntry.{TypeEntry}
 use Rattle.table.specs.declared.index.ProcedureEntry.{ProcedureEntry}
-use Rattle.declarations.specs.Program.{type_in, procedure_in, code_of, code_verdict}
+use Rattle.declarations.specs.Program.{procedure_in, code_of, code_verdict}
 use Rattle.effects.specs.Kinds.{Kinds, good, fault_after}
 use Rattle.effects.specs.Effects.{kinds_after}
 use Rattle.operands.specs.Operands.{last_of_block, ends_block, named_type, foreign, after, kinds_before, code_fault}

@@ -80,30 +80,43 @@ fn is_target(code: &[u8], j: usize) -> bool
     (0..code.len() / format::ROW_BYTES).any(|i| jumps_to(table::row_at(code, i), j))
 }
 
-// The same, from the marks; no table that is accepted has code past them.
-fn is_marked(code: &[u8], marks: &[bool], j: usize) -> bool
-    requires { Marked code.now marks.now }
-    ensures { result ≡ is_target code.now j }
-{
-    match marks.get(j) {
-        Some(mark) => *mark,
-        None => is_target(code, j),
-    }
+// The instructions of a procedure, with marks that tell the jump targets among them.
+#[derive(Clone, Copy)]
+struct Code<'a> {
+    rows: &'a [u8],
+    marks: &'a [bool],
+    ghost marked: { Marked rows.now marks.now },
 }
 
-// Whether instruction i of the n of the code is the last of its block.
-fn is_last(code: &[u8], marks: &[bool], n: usize, opcode: u8, i: usize) -> bool
-    requires { (i < n) × Marked code.now marks.now }
-    ensures { result ≡ (leb n (i + 1) || ends_block opcode || is_target code.now (i + 1)) }
-{
-    n <= i + 1 || ends_block(opcode) || is_marked(code, marks, i + 1)
+impl<'a> Code<'a> {
+    // Whether some instruction jumps to instruction j: the marks tell it, and no table that is accepted has code past them.
+    fn is_target(self, j: usize) -> bool
+        ensures { result ≡ is_target self.entry.rows.now j }
+    {
+        match self.marks.get(j) {
+            Some(mark) => *mark,
+            None => is_target(self.rows, j),
+        }
+    }
+
+    // Whether instruction i is the last of its block.
+    fn is_last(self, opcode: u8, i: usize) -> bool
+        requires { i < row_count self.rows.now }
+        ensures { result ≡ (leb (row_count self.entry.rows.now) (i + 1) || ends_block opcode || is_target self.entry.rows.now (i + 1)) }
+    {
+        self.rows.len() / format::ROW_BYTES <= i + 1 || ends_block(opcode) || self.is_target(i + 1)
+    }
 }
 
 // The type that an instruction names: the number is B / 8 for BorrowFld, else B.
 pub fn named_number(opcode: u8, b: u16) -> usize
     ensures { result ≡ cond (eqb opcode op_borrow_fld) (b / 8) b }
 {
-    usize::from(if opcode == format::BORROW_FLD { b / 8 } else { b })
+    usize::from(if opcode == format::BORROW_FLD {
+        b / 8
+    } else {
+        b
+    })
 }
 
 // The type that an instruction names, and the procedure.
@@ -129,25 +142,24 @@ fn named_procedure(index: &Index, row: Row) -> ProcedureEntry
         .unwrap_or(ProcedureEntry::NONE)
 }
 
-// The instructions of procedure `own`, whose code is the part `code`; `marks` has its first jump targets.
+// The instructions of procedure `own`.
 fn judge_code(
     table: &[u8],
-    code: &[u8],
-    marks: &[bool],
+    code: Code,
     own: ProcedureEntry,
     index: &Index,
 ) -> Result<usize, Refusal>
-    requires { (code.now ≡ code_of table.now own) × Marked code.now marks.now }
-    ensures { verdict_of result ≡ code_verdict (code_fault table.now index.now own) own.code (row_count code.now) }
+    requires { code.rows.now ≡ code_of table.now own }
+    ensures { verdict_of result ≡ code_verdict (code_fault table.now index.now own) own.code (row_count code.entry.rows.now) }
 {
-    let n = code.len() / format::ROW_BYTES;
+    let n = code.rows.len() / format::ROW_BYTES;
     let mut kinds = [0u32; format::MAX_OPERANDS];
     let mut stack = Stack::EMPTY;
     for i in 0..n {
-        let row = table::row_at(code, i);
+        let row = table::row_at(code.rows, i);
         let named = named_type(index, row);
         let callee = named_procedure(index, row);
-        let last = is_last(code, marks, n, row.a, i);
+        let last = code.is_last(row.a, i);
         stack = stack.step(&mut kinds, table, row, own, named, callee);
         if let Some(reason) = stack.fault_after(last, is_foreign(table, row, own, named, callee)) {
             return Err(reason.at((own.code as usize) + i));
@@ -158,13 +170,22 @@ fn judge_code(
 }
 
 // One procedure.
-fn judge_procedure(table: &[u8], code: &[u8], own: ProcedureEntry, index: &Index) -> Result<usize, Refusal>
+fn judge_procedure(
+    table: &[u8],
+    code: &[u8],
+    own: ProcedureEntry,
+    index: &Index,
+) -> Result<usize, Refusal>
     requires { code.now ≡ code_of table.now own }
     ensures { verdict_of result ≡ code_verdict (code_fault table.now index.now own) own.code (row_count code.now) }
 {
     let mut marks = [false; format::MAX_INSTRUCTIONS];
     mark_targets(code, &mut marks);
-    judge_code(table, code, &marks, own, index)
+    let code = Code {
+        rows: code,
+        marks: &marks,
+    };
+    judge_code(table, code, own, index)
 }
 
 // The operands pass over a table with a given index.

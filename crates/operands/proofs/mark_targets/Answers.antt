@@ -10,7 +10,7 @@ pub loop-i-preserved : goal.loop-i-preserved
 loop-i-preserved c =
     let marked = c.loop-i.invariant in
     elim c.if-is_jump.branch [
-      then-is_jump+then-b-marks w ↦ w.marks-is ∙ mark_jump _ _ _ _ marked _ c.row_at-row.ensures (sym c.is_jump.ensures ∙ w.if-is_jump.true) (rw (marks_length _ _ _ _ marked _ c.row_at-row.ensures) at w.if-b-marks.true)
+      | then-is_jump+then-b-marks w ↦ w.marks-is ∙ mark_jump _ _ _ _ marked _ c.row_at-row.ensures (sym c.is_jump.ensures ∙ w.if-is_jump.true) (rw (marks_length _ _ _ _ marked _ c.row_at-row.ensures) at w.if-b-marks.true)
       | else-is_jump w ↦ w.marks-is ∙ mark_none _ _ _ _ marked _ c.row_at-row.ensures c.is_jump.ensures w.else-is_jump.either
     ]
 
