@@ -23,7 +23,8 @@ use Rattle.table.specs.Verdicts.{Verdict, Accepted, Refused, number_of_reason}
 use Rattle.table.specs.declared.refusals.Reason.{Reason}
 use Rattle.table.specs.declared.index.Index.{Index}
 use Rattle.table.specs.Index.{no_procedure}
-use Rattle.declarations.proofs.Laws.{procedures_of, pass_from, pass_end, pass_on, pass_refused, on_part}
+use Rattle.declarations.specs.code.Limits.{over_limits}
+use Rattle.declarations.proofs.Laws.{limits-held, procedures_of, pass_from, pass_end, pass_on, pass_refused, on_part}
 use Rattle.table.specs.declared.index.ProcedureEntry.{ProcedureEntry}
 use Rattle.table.specs.Format.{op_mv_loc, op_cp_loc, op_st_loc, op_borrow_loc, op_ret}
 use Rattle.table.specs.Rows.{row_count, row_at}
@@ -216,6 +217,10 @@ any_below test below z s (suc n) = any_range test 0 n ∙ rw (zero-add, any_belo
 pub verdict_same : (f g : ℕ → ℕ) (start n : ℕ) → ((i : ℕ) → i < n → f i ≡ g i) → code_verdict f start n ≡ code_verdict g start n
 unfolding code_verdict
 verdict_same f g start n h = first-same Accepted (λ (number i : ℕ). Refused number (start + i)) f g 0 n (λ j lo hi. h j (omega arith))
+
+-- the limits that a procedure keeps, whose code is c
+pub within : (t : List ℕ) (p : ProcedureEntry) {c : List ℕ} {over : Bool} → c ≡ code_of t p → over ≡ over_limits t p → over ≡ false → (local_count p ≤ 16) × (row_count c ≤ 256)
+within t p e o h = rw e (limits-held _ _ (sym o ∙ h))
 
 -- the verdict on the code of procedure p
 pub procedure_verdict :
