@@ -11,7 +11,7 @@ use Rattle.locals.proofs.judge_procedure.Goals.{then-n-eq0-via-then-n-eq0, then-
 pub returns-then-n-eq0 : goal.returns-then-n-eq0
 unfolding code_verdict first_fault
 returns-then-n-eq0 c = elim c.then-n-eq0.branch [
-  then-n-eq0-via-then-n-eq0 w ↦ rw w.if-n-eq0.true
+  | then-n-eq0-via-then-n-eq0 w ↦ rw w.if-n-eq0.true
   | then-n-eq0-via-else-n-eq0+then-over_limits w ↦ sym (rw c.requires.0 (limited_out _ _ _ (sym w.over_limits.ensures ∙ w.if-over_limits.true)))
 ]
 

@@ -9,6 +9,6 @@ loop-l-init c = those-none _
 
 pub loop-l-preserved : goal.loop-l-preserved
 loop-l-preserved c = those_more _ _ c.loop-l.invariant c.is_record_local.ensures (elim c.if-is_record_local.branch [
-  then-is_record_local w ↦ inl (w.if-is_record_local.true, w.set-is ∙ w.insert-set.ensures)
+  | then-is_record_local w ↦ inl (w.if-is_record_local.true, w.set-is ∙ w.insert-set.ensures)
   | else-is_record_local w ↦ inr (w.if-is_record_local.false, w.set-is)
 ])

@@ -10,6 +10,6 @@ loop-l-init c = those-none _
 
 pub loop-l-preserved : goal.loop-l-preserved
 loop-l-preserved c = those_more _ _ c.loop-l.invariant (ap not c.can_be.ensures) (elim c.if-not-can_be.branch [
-  then-not-can_be w ↦ inl (ap not w.if-not-can_be.true, w.set-is ∙ w.insert-set.ensures)
+  | then-not-can_be w ↦ inl (ap not w.if-not-can_be.true, w.set-is ∙ w.insert-set.ensures)
   | else-not-can_be w ↦ inr (ap not w.if-not-can_be.false, w.set-is)
 ])

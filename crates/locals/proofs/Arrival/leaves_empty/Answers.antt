@@ -13,6 +13,6 @@ returns-then-can_be c =
     let few : c.args.self.now.count ≤ 16 = omega arith in
     rw (c.contains.ensures, c.always_full.ensures, contains-those _ _ c.args.l few)
     (elim c.if-l-self.branch [
-      then-l-self w ↦ rw (lt-ltb _ _ w.if-l-self.true) (not-not _)
+      | then-l-self w ↦ rw (lt-ltb _ _ w.if-l-self.true) (not-not _)
       | else-l-self w ↦ absurd (true≢false (sym c.if-can_be.true ∙ w.value-is ∙ le-ltb _ _ w.if-l-self.false))
     ])
