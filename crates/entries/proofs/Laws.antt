@@ -1,9 +1,10 @@
 -- Laws of what is looked up of a row, of the rows that make marks, and of the arrays filled row by row.
 use Prim.Native.Nat.{ℕ, zero, suc, ◌+◌, ◌-◌, ◌/◌, ◌<◌}
 use mathlib.Core.Path.{◌≡◌, refl, sym, ap, ◌∙◌}
-use mathlib.Core.Bool.{Bool, true, false, cond, ◌&&◌, ◌||◌}
+use mathlib.Core.Bool.{Bool, true, false, cond, ◌&&◌, ◌||◌, or-true}
 use mathlib.Core.List.{List}
 use native.Mathlib.Decide.{ℕ_discrete}
+use native.Mathlib.Numerals.{add-one}
 use native.Mathlib.Omega.{arith}
 use borrow.Author.Tests.{eq-eqb, ne_eqb}
 use lib.Dec.{eqb}
@@ -46,17 +47,13 @@ module _ (t : List ℕ) (p callee : ProcedureEntry) (row : Row) where
   sends_none e h = rw (ne_eqb row.a op_call e, ne_eqb row.a op_ret h) refl
 
 -- whether a row is of kind k
-kind-is : (t : List ℕ) (k i : ℕ) {row : Row} → row ≡ row_at t i → is_kind t k i ≡ eqb row.kind k
+kind_is : (t : List ℕ) (k i : ℕ) {row : Row} → row ≡ row_at t i → is_kind t k i ≡ eqb row.kind k
 unfolding is_kind kind_at
-kind-is t k i e = ap (λ (r : Row). eqb r.kind k) (sym e)
+kind_is t k i e = ap (λ (r : Row). eqb r.kind k) (sym e)
 
 -- the rows that make marks of themselves
 module _ (t : List ℕ) (ix : Index) where
   module _ (i : ℕ) {row : Row} (e : row ≡ row_at t i) where
-    pub makes-not : (row.kind ≡ instruction_kind → ⊥) → false ≡ makes_at t ix i
-    unfolding makes_at
-    makes-not h = rw (kind-is t instruction_kind i e ∙ ne_eqb row.kind instruction_kind h) refl
-
     pub makes_other : (row.a ≡ op_borrow_fld → ⊥) → false ≡ makes_at t ix i
     unfolding makes_at borrows_guarded
     makes_other h = rw (← e, ne_eqb row.a op_borrow_fld h) (go (is_kind t instruction_kind i))
@@ -65,33 +62,28 @@ module _ (t : List ℕ) (ix : Index) where
         go true = refl
         go false = refl
 
-    pub makes-is : {x : Bool} {named : TypeEntry} {y : ℕ} → row.kind ≡ instruction_kind → y ≡ cond (eqb row.a op_borrow_fld) (row.b / 8) row.b → named ≡ type_in ix y → x ≡ borrows_guarded t named row
-        → x ≡ makes_at t ix i
+    pub makes_is : {named : TypeEntry} {y : ℕ} → y ≡ cond (eqb row.a op_borrow_fld) (row.b / 8) row.b → named ≡ type_in ix y
+        → makes_at t ix i ≡ (eqb row.kind instruction_kind && borrows_guarded t named row)
     unfolding makes_at named_type
-    makes-is k s n q = rw (kind-is t instruction_kind i e ∙ eq-eqb row.kind instruction_kind k, ← e, ← s, ← n) q
+    makes_is s n = rw (kind_is t instruction_kind i e, ← e, ← s, ← n) refl
 
-  -- going down from row r
-  pub some-here : (r : ℕ) → 0 < r → makes_at t ix (r - 1) ≡ true → makes_some t ix r ≡ true
+  -- one of the first n rows that makes a mark
+  pub some_at : (r n : ℕ) → r < n → makes_at t ix r ≡ true → makes_some t ix n ≡ true
   unfolding makes_some
-  some-here zero h e = absurd (omega arith)
-  some-here (suc r) h e = let z : suc r - 1 ≡ r = omega arith in rw (rw z at e) (go (makes_some t ix r))
+  some_at r zero h e = absurd (omega arith)
+  some_at r (suc n) h e = go (ℕ_discrete r n) (λ l. some_at r n l e)
     where
-      go : (b : Bool) → (b || true) ≡ true
-      go true = refl
-      go false = refl
+      go : Dec (r ≡ n) → (r < n → makes_some t ix n ≡ true) → (makes_some t ix n || makes_at t ix n) ≡ true
+      go (yes d) below = rw (← d, e, or-true) refl
+      go (no d) below = rw (below (omega arith)) refl
 
-  pub some_down : (r : ℕ) → 0 < r → makes_at t ix (r - 1) ≡ false → makes_some t ix r ≡ makes_some t ix (r - 1)
+  pub some_next : (n : ℕ) → makes_some t ix n ≡ false → makes_at t ix n ≡ false → makes_some t ix (n + 1) ≡ false
   unfolding makes_some
-  some_down zero h e = absurd (omega arith)
-  some_down (suc r) h e = let z : suc r - 1 ≡ r = omega arith in rw (z, rw z at e) (go (makes_some t ix r))
-    where
-      go : (b : Bool) → (b || false) ≡ b
-      go true = refl
-      go false = refl
+  some_next n h e = rw (add-one n, h, e) refl
 
-  pub some-none : makes_some t ix 0 ≡ false
+  pub some_none : makes_some t ix 0 ≡ false
   unfolding makes_some
-  some-none = refl
+  some_none = refl
 
 -- the entry of a row, by its kind
 module _ (t : List ℕ) (above : ℕ) (head own : ProcedureEntry) (named : TypeEntry) (callee : ProcedureEntry) (row : Row) where
@@ -120,36 +112,25 @@ pub count_next : (t : List ℕ) (r : ℕ) {above next : ℕ} {row : Row} → row
 count_next t r {above} {next} {row} e a q = go (eqb row.kind procedure_kind) refl
   where
     go : (b : Bool) → eqb row.kind procedure_kind ≡ b → next ≡ count (is_kind t procedure_kind) (r + 1)
-    go true p = omega (arith, a, rw p at q, count_yes (is_kind t procedure_kind) r (kind-is t procedure_kind r e ∙ p))
-    go false p = omega (arith, a, rw p at q, count_no (is_kind t procedure_kind) r (kind-is t procedure_kind r e ∙ p))
-
--- an array that holds f of each row below r, with f r at r
-agrees_next : (f : ℕ → ℕ) (xs : List ℕ) (r x : ℕ) → r < length xs → x ≡ f r → ((k : ℕ) → k < r → get_or xs k 0 ≡ f k) → (k : ℕ) → k < r + 1 → get_or (set xs r x) k 0 ≡ f k
-agrees_next f xs r x h e at k l = go (ℕ_discrete k r)
-  where
-    go : Dec (k ≡ r) → get_or (set xs r x) k 0 ≡ f k
-    go (yes q) = rw q (get_or-set_same xs r x 0 h ∙ e)
-    go (no q) = get_or-set_other xs r k x 0 q ∙ at k (omega arith)
+    go true p = omega (arith, a, rw p at q, count_yes (is_kind t procedure_kind) r (kind_is t procedure_kind r e ∙ p))
+    go false p = omega (arith, a, rw p at q, count_no (is_kind t procedure_kind) r (kind_is t procedure_kind r e ∙ p))
 
 -- the entry of row r, from what the code reads of it
 entry-is : (t : List ℕ) (ix : Index) (r : ℕ) {above : ℕ} {row : Row} {x : RowEntry} → above ≡ count (is_kind t procedure_kind) r → row ≡ row_at t r → x ≡ entry_for t ix above row → x ≡ entry_at t ix r
 unfolding entry_at
 entry-is t ix r a w q = rw (← a, ← w) q
 
-module _ (t : List ℕ) (ix : Index) (takes gives base sends calls : List ℕ) where
+module _ (t : List ℕ) (ix : Index) (rows : List RowEntry) where
   -- no row is filled
-  pub filled_none : Filled t ix takes gives base sends calls 0
-  filled_none = record { takes_at = λ r h. absurd (omega arith); gives_at = λ r h. absurd (omega arith); base-at = λ r h. absurd (omega arith); sends-at = λ r h. absurd (omega arith); calls_at = λ r h. absurd (omega arith) }
+  pub filled_none : Filled t ix rows 0
+  filled_none = record { entries-are = λ r h. absurd (omega arith) }
 
   -- the entry of row r is put
-  pub filled_next : (r : ℕ) {above : ℕ} {row : Row} {x : RowEntry} → Filled t ix takes gives base sends calls r
-      → (r < length takes) × (r < length gives) × (r < length base) × (r < length sends) × (r < length calls)
+  pub filled_next : (r : ℕ) {above : ℕ} {row : Row} {x : RowEntry} → Filled t ix rows r → r < length rows
       → above ≡ count (is_kind t procedure_kind) r → row ≡ row_at t r → x ≡ entry_for t ix above row
-      → Filled t ix (set takes r x.takes) (set gives r x.gives) (set base r x.base) (set sends r x.sends) (set calls r x.calls) (r + 1)
-  filled_next r {above} {row} {x} before room a w q = let is = entry-is t ix r a w q in record {
-    takes_at = agrees_next (λ (k : ℕ). (entry_at t ix k).takes) takes r x.takes room.0 (ap (λ (z : RowEntry). z.takes) is) before.takes_at;
-    gives_at = agrees_next (λ (k : ℕ). (entry_at t ix k).gives) gives r x.gives room.1 (ap (λ (z : RowEntry). z.gives) is) before.gives_at;
-    base-at = agrees_next (λ (k : ℕ). (entry_at t ix k).base) base r x.base room.2 (ap (λ (z : RowEntry). z.base) is) before.base-at;
-    sends-at = agrees_next (λ (k : ℕ). (entry_at t ix k).sends) sends r x.sends room.3 (ap (λ (z : RowEntry). z.sends) is) before.sends-at;
-    calls_at = agrees_next (λ (k : ℕ). (entry_at t ix k).calls) calls r x.calls room.4 (ap (λ (z : RowEntry). z.calls) is) before.calls_at;
-  }
+      → Filled t ix (set rows r x) (r + 1)
+  filled_next r {x = x} before room a w q = record { entries-are = λ k l. go k l (ℕ_discrete k r) }
+    where
+      go : (k : ℕ) → k < r + 1 → Dec (k ≡ r) → get_or (set rows r x) k no_entry ≡ entry_at t ix k
+      go k l (yes e) = rw e (get_or-set_same rows r x no_entry room ∙ entry-is t ix r a w q)
+      go k l (no e) = get_or-set_other rows r k x no_entry e ∙ before.entries-are k (omega arith)

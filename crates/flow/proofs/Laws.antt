@@ -1,7 +1,7 @@
 -- Laws of how a search goes on from a node.
 use Prim.Native.Nat.{ℕ, ◌+◌, ◌*◌, ◌/◌, ◌%◌, ◌<◌, ◌≤◌}
 use mathlib.Core.Path.{◌≡◌, refl, ap₂}
-use mathlib.Core.Bool.{Bool, true, false, cond, false≢true}
+use mathlib.Core.Bool.{Bool, true, false, cond}
 use mathlib.Core.List.Memᴰ
 use mathlib.Core.List.{List, [], ◌∷◌, ◌++◌}
 use mathlib.Core.Logic.{◌⊎◌, inl, inr, ⊎_elim}
@@ -10,10 +10,12 @@ use native.Mathlib.Decide.{dec_lt}
 use native.Mathlib.Omega.{arith}
 use borrow.Author.Tests.{lt-ltb, le-ltb, ne_eqb, eqb-true, ltb-true}
 use lib.Dec.{eqb, ltb}
-use lib.ListN.{length, set}
+use lib.ListN.{length, set, length-set}
+use Rattle.std.specs.Prelude.{Option, Some}
+use Rattle.std.specs.Bool.{then_some}
 use Rattle.reach.specs.Reach.{Mem, here, there, Inside, count_true}
 use Rattle.reach.specs.code.Search.{Visit, after, visit_of, visit_all, is_unvisited, entering}
-use Rattle.reach.proofs.Search.{count_stays_all, unvisited_below, count-entered, follow-on, follow-end}
+use Rattle.reach.proofs.Search.{count_stays_all, length-visits, unvisited_below, count-entered, follow-on, follow-end}
 use Rattle.table.specs.declared.Row.{Row}
 use Rattle.table.specs.Format.{op_ret, op_branch, op_branch_cond}
 use Rattle.table.specs.Rows.{row_count, row_at}
@@ -141,7 +143,7 @@ module _ (width n : ℕ) (row : Row) (i x : ℕ) where
           (Memᴰ.append_cases (first_of n row i) (rw (next-split n row i) at b.0))
 
 -- it is a small number
-pub followed_small : (n : ℕ) (row : Row) (i : ℕ) → n ≤ 256 → row.b < 65536 → i < 256 → followed_of n row i < 65536
+followed_small : (n : ℕ) (row : Row) (i : ℕ) → n ≤ 256 → row.b < 65536 → i < 256 → followed_of n row i < 65536
 unfolding followed_of
 followed_small n row i h k l = go (eqb row.a op_ret) (eqb row.a op_branch)
   where
@@ -150,44 +152,57 @@ followed_small n row i h k l = go (eqb row.a op_ret) (eqb row.a op_branch)
     go false true = k
     go false false = omega arith
 
+-- and so is the number of a node there
+pub followed_node : (width n : ℕ) (row : Row) (i : ℕ) {at : ℕ} → width ≤ 255 → n ≤ 256 → row.b < 65536 → i < 256 → at ≡ followed_of n row i → width * at ≤ 16711425
+followed_node width n row i w h k l e = rw e (node_small width (followed_of n row i) w (followed_small n row i h k l))
+
 -- so a search goes on from it
-module _ (width n : ℕ) (row : Row) (i place : ℕ) (seen : List Bool) (queue : List ℕ) (tail : ℕ) where
+module _ (width n : ℕ) (row : Row) (i place : ℕ) (y : Visit) where
   entered_on :
       {x : Visit}
-      → x ≡ visit_all (after seen queue tail) (aside width n row i place)
-      → length x.visited ≡ width * n
+      → x ≡ visit_all y (aside width n row i place)
+      → length y.visited ≡ width * n
       → (b : Bool)
       → is_unvisited x.visited (width * goal width n row i place + place) ≡ b
-      → GoesOn width n row i place seen queue tail (cond b (set x.visited (width * goal width n row i place + place) true) x.visited) x.queue
-      (record { tail = x.tail; at = goal width n row i place; going = b })
+      → GoesOn width n row i place y (after (cond b (set x.visited (width * goal width n row i place + place) true) x.visited) x.queue x.tail)
+      (then_some b (goal width n row i place))
   entered_on {x} e size true h = record {
     search = λ succs s head u q inside long few l state.
         follow-on state inside few l _ _ (λ w k. rw q (others_sub width n row i place w k)) (λ w k. others_all width n row i place w (rw q at k)) (λ k. rw q (followed-own width n row i place (rw long at k))) e h;
     grown = omega (arith, more, one);
-    new = λ y. (omega (arith, more, one), goal_there width n row i place (rw size at (unvisited_below x.visited _ h)));
+    new = λ j q. (omega (arith, more, one), rw (same j q) (goal_there width n row i place (omega (arith, kept.0, size, unvisited_below x.visited _ h))));
+    sized = (simp length-set kept.0, kept.1);
   }
     where
-      more : count_true seen ≤ count_true x.visited
-      more = rw e (count_stays_all (after seen queue tail) _)
+      more : count_true y.visited ≤ count_true x.visited
+      more = rw e (count_stays_all y _)
 
       one : count_true (set x.visited (width * goal width n row i place + place) true) ≡ count_true x.visited + 1
       one = count-entered x.visited _ h
+
+      kept : (length x.visited ≡ length y.visited) × (length x.queue ≡ length y.queue)
+      kept = rw e (length-visits y _)
+
+      same : (j : ℕ) → Some (goal width n row i place) ≡ Some j → j ≡ goal width n row i place
+      same j q = cc
   entered_on {x} e size false h = record {
     search = λ succs s head u q inside long few l state.
         follow-end state inside few l _ _ (λ w k. rw q (others_sub width n row i place w k)) (λ w k. others_all width n row i place w (rw q at k)) (λ k. rw q (followed-own width n row i place (rw long at k))) e h;
-    grown = rw e (count_stays_all (after seen queue tail) _);
-    new = λ y. absurd (false≢true y);
+    grown = rw e (count_stays_all y _);
+    new = λ j q. cc;
+    sized = rw e (length-visits y _);
   }
 
   pub goes_on :
-      {at : ℕ} {x : Visit} {b : Bool} {more : List Bool}
+      {at : ℕ} {x z : Visit} {b : Bool} {r : Option ℕ}
       → at ≡ followed_of n row i
-      → x ≡ visit_all (after seen queue tail) (aside width n row i place)
-      → length x.visited ≡ width * n
+      → x ≡ visit_all y (aside width n row i place)
+      → length y.visited ≡ width * n
       → b ≡ is_unvisited x.visited (width * at + place)
-      → more ≡ entering x.visited (width * at + place)
-      → GoesOn width n row i place seen queue tail more x.queue (record { tail = x.tail; at = at; going = b })
-  goes_on p e size b t = rw (b, t, p) (entered_on e size _ refl)
+      → z ≡ after (entering x.visited (width * at + place)) x.queue x.tail
+      → r ≡ then_some b at
+      → GoesOn width n row i place y z r
+  goes_on p e size b t q = rw (q, b, t, p) (entered_on e size _ refl)
 
 -- The nodes that go on from a node of n instructions with `width` places are such nodes.
 pub graph_inside :

@@ -2,14 +2,16 @@
 #![tactic(auto)]
 
 ghost use Rattle.std.specs.Prelude.{◌≡◌, [], ◌∷◌, ◌*◌, ◌≤◌, ◌<◌, length};
-ghost use Rattle.reach.specs.code.Search.{after, visit_all};
+ghost use Rattle.reach.specs.code.Search.{state, SameSlices, visit_all};
 ghost use Rattle.flow.specs.Steps.{below};
 ghost use Rattle.flow.specs.Places.{nodes_of};
 ghost use Rattle.flow.specs.code.Going.{followed_of, aside_of, GoesOn};
 
+use reach::Traversal;
 use table::{Row, format};
 
 // The instruction that a walk is followed to from instruction i of n; n where there is none.
+// No Option: a jump past the end is refused where its node is entered, and n is refused there by the same test.
 #[tactic(auto, unfolding(crate::specs::code::Going::followed_of))]
 fn followed(n: usize, row: Row, i: usize) -> usize
     requires { i < 256 }
@@ -25,61 +27,34 @@ fn followed(n: usize, row: Row, i: usize) -> usize
 }
 
 // Visits the place of the other branch, where there is one, of n instructions.
-fn visit_aside(
-    visited: &mut [bool],
-    queue: &mut [u16],
-    tail: usize,
-    width: u8,
-    n: usize,
-    row: Row,
-    place: u16,
-) -> usize
-    ensures { after visited.new queue.new result ≡ visit_all (after visited.old queue.old tail) (nodes_of width (below n (aside_of row)) (place ∷ [])) }
+#[tactic(auto, using(crate::proofs::Laws::node_small, crate::proofs::Laws::aside_there, crate::proofs::Laws::aside_past, crate::proofs::Laws::aside_none))]
+fn visit_aside(search: &mut Traversal<'_>, width: u8, n: usize, row: Row, place: u16)
+    ensures visits { state search.new ≡ visit_all (state search.old) (nodes_of width (below n (aside_of row)) (place ∷ [])) }
+    ensures same_slices { SameSlices search.old search.new }
 {
-    if row.a != format::BRANCH_COND {
-        return tail;
-    }
     let j = row.b as usize;
-    if n <= j {
-        return tail;
+    if row.a == format::BRANCH_COND && j < n {
+        search.visit((width as usize) * j + (place as usize));
     }
-    reach::visit(
-        visited,
-        queue,
-        tail,
-        (width as usize) * j + (place as usize),
-    )
-}
-
-// Where a search goes on: the queue's end, and the instruction that is followed next, where it goes on.
-#[derive(Clone, Copy)]
-pub struct Going {
-    pub tail: usize,
-    pub at: usize,
-    pub going: bool,
 }
 
 // Goes on from instruction i of n, where what is followed comes to one place after it: at the other branch the place is visited, and at the instruction that is
-// followed it is entered where it is new.
+// followed it is entered. Returns that instruction where the place is new there.
 pub fn go_on(
-    visited: &mut [bool],
-    queue: &mut [u16],
-    tail: usize,
+    search: &mut Traversal<'_>,
     width: u8,
     n: usize,
     row: Row,
     i: usize,
     place: u16,
-) -> Going
-    requires { (length visited.old ≡ width * n) × (n ≤ 256) × (i < 256) }
-    ensures { GoesOn width n row i place visited.old queue.old tail visited.new queue.new result }
+) -> Option<usize>
+    requires { (length search.old.visited.now ≡ width * n) × (n ≤ 256) × (i < 256) }
+    ensures on { GoesOn width n row i place (state search.old) (state search.new) result }
+    ensures same_slices { SameSlices search.old search.new }
 {
     let at = followed(n, row, i);
-    let end = visit_aside(visited, queue, tail, width, n, row, place);
-    let going = reach::enter(visited, (width as usize) * at + (place as usize));
-    Going {
-        tail: end,
-        at,
-        going,
-    }
+    visit_aside(search, width, n, row, place);
+    search
+        .enter((width as usize) * at + (place as usize))
+        .then_some(at)
 }

@@ -13,8 +13,9 @@ use lib.ListN.{length, get_or, take, drop, replicate, length-replicate}
 use Rattle.std.specs.List.{list_any, range_with_len}
 use Rattle.std.proofs.lemmas.List.{take_all}
 use Rattle.laws.proofs.First.{first-same, from, whole, fine, faulty_with, done}
+use Rattle.std.specs.Prelude.{None, Some}
 use Rattle.reach.specs.Reach.{Mem, Inside, mark}
-use Rattle.reach.specs.code.Search.{Searched, entering}
+use Rattle.reach.specs.code.Search.{Searched, Visit, after, entering}
 use Rattle.reach.proofs.Laws.{length-mark}
 use Rattle.reach.proofs.Settle.{settle-iter}
 use Rattle.reach.proofs.Search.{search-one, taken, finish, tail-le, queued-below}
@@ -32,7 +33,6 @@ use Rattle.declarations.specs.Program.{code_of, code_verdict, local_count, local
 use Rattle.flow.specs.Steps.{below, next_of, nexts}
 use Rattle.flow.specs.Places.{nodes_of as nodes_from, succs, local_moves, status_after, start_status, local_nodes, reached, can_be_empty, can_be_full}
 use Rattle.flow.proofs.Paths.{node_div, node_mod}
-use Rattle.flow.specs.declared.Going.{Going}
 use Rattle.flow.specs.code.Going.{GoesOn}
 use Rattle.flow.proofs.Laws.{graph_inside, next-below}
 use Rattle.locals.specs.declared.LocalSet.{LocalSet}
@@ -78,10 +78,6 @@ module _ (code : List ℕ) (params l : ℕ) where
   abbrev pub Waiting : List Bool → List ℕ → ℕ → ℕ → Type 0
   Waiting seen queue head tail = Searched graph first seen queue head tail (length first)
 
-  -- and one that went on so, with status y
-  abbrev pub Followed : List Bool → List ℕ → ℕ → ℕ → Going → Type 0
-  Followed seen queue head y r = Searched graph first seen queue head r.tail (cond r.going (2 * r.at + y) (length first))
-
   status_below : (i x y : ℕ) → x < 2 → Mem y (local_moves (bare_step code) l i x) → y < 2
   unfolding local_moves
   status_below i x y h m = rw (Memᴰ.eq_of_singleton m) (after-below (row_at code i) l x h)
@@ -103,41 +99,35 @@ module _ (code : List ℕ) (params l : ℕ) where
   nodes_after i x h e q = rw (node_div 2 i x h, node_mod 2 i x h, q, e)
 
   pub local-start :
-      (queue : List ℕ) (empty : List Bool) {seen : List Bool}
+      (queue : List ℕ) (empty : List Bool) {v : Visit}
       → 0 < row_count code
       → 512 ≤ length queue
       → row_count code ≤ 256
       → empty ≡ replicate (2 * row_count code) false
-      → seen ≡ entering empty (start_status params l)
-      → Spreading seen queue 0 0 0 (start_status params l)
+      → v ≡ after (entering empty (start_status params l)) queue 0
+      → Spreading v.visited v.queue 0 v.tail 0 (start_status params l)
   local-start queue empty some room few e h =
       let z : 2 * 0 + start_status params l ≡ start_status params l = omega arith in
-      rw z (search-one graph (2 * row_count code) queue (start_status params l) (omega arith) (omega (arith, start-below params l)) (rw e at h))
+      rw (h, e, z) (search-one graph (2 * row_count code) queue (start_status params l) (omega arith) (omega (arith, start-below params l)) refl)
+
+  pub local-sized : {seen : List Bool} {queue : List ℕ} {head tail : ℕ} (i x : ℕ) → Spreading seen queue head tail i x → length seen ≡ 2 * row_count code
+  local-sized i x state = state.visits.sized ∙ length-first
 
   module _ {seen : List Bool} {queue : List ℕ} {head tail i x : ℕ} (state : Spreading seen queue head tail i x) where
-    -- the search goes on from the node that is followed
-    pub local-on :
-        {row : Row} {y : ℕ} {more : List Bool} {longer : List ℕ} {r : Going}
-        → row_count code ≤ 256
-        → i < row_count code
-        → x < 2
-        → row ≡ row_at code i
-        → y ≡ status_after (row_step row) l x
-        → GoesOn 2 (row_count code) row i y seen queue tail more longer r
-        → Followed more longer head y r
-    local-on few h k e q on = on.search graph first head (2 * i + x) (nodes_after i x k e q) inside length-first (omega (arith, length-first)) (omega (arith, length-first)) state
+    -- the search goes on from the node that is followed: to another that is followed, or none is
+    module _ {row : Row} {y : ℕ} {v : Visit} (few : row_count code ≤ 256) (below : i < row_count code) (two : x < 2) (e : row ≡ row_at code i) (q : y ≡ status_after (row_step row) l x) where
+      pub local-still : {j : ℕ} → GoesOn 2 (row_count code) row i y (after seen queue tail) v (Some j) → Spreading v.visited v.queue head v.tail j y
+      local-still on = on.search graph first head (2 * i + x) (nodes_after i x two e q) inside length-first (omega (arith, length-first)) (omega (arith, length-first)) state
 
-  -- it follows a node, or nothing
-  module _ {seen : List Bool} {queue : List ℕ} {head : ℕ} (y : ℕ) (r : Going) (state : Followed seen queue head y r) where
-    pub local_still : r.going ≡ true → Spreading seen queue head r.tail r.at y
-    local_still e = rw e at state
-
-    pub local_rests : r.going ≡ false → Waiting seen queue head r.tail
-    local_rests e = rw e at state
+      pub local-rests : GoesOn 2 (row_count code) row i y (after seen queue tail) v None → Waiting v.visited v.queue head v.tail
+      local-rests on = on.search graph first head (2 * i + x) (nodes_after i x two e q) inside length-first (omega (arith, length-first)) (omega (arith, length-first)) state
 
   module _ {seen : List Bool} {queue : List ℕ} {head tail : ℕ} (state : Waiting seen queue head tail) where
     pub local-tail : tail ≤ 2 * row_count code
     local-tail = omega (arith, length-first, tail-le state.visits)
+
+    pub local-room : 2 * row_count code ≤ length queue
+    local-room = omega (arith, length-first, state.visits.room)
 
     pub local-queued : head < tail → get_or queue head 0 < 2 * row_count code
     local-queued h = omega (arith, length-first, queued-below state.visits head h)

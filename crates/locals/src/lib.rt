@@ -12,6 +12,7 @@ ghost use Rattle.locals.specs.Locals.{row_step, needs_full, nodes_of, local_faul
 ghost use Rattle.locals.specs.code.Faults.{empty_at, record_at, some_record, fault_from};
 ghost use Rattle.locals.specs.code.Within.{locals_within};
 
+use reach::Traversal;
 use table::index::{Index, ProcedureEntry};
 use table::refusals::{Reason, Refusal};
 use table::{Row, format};
@@ -80,26 +81,29 @@ fn spread_local(visited: &mut [bool], queue: &mut [u16], code: &[u8], params: us
 {
     let n = code.len() / format::ROW_BYTES;
     reach::clear(visited);
+    let mut search = Traversal {
+        visited,
+        queue,
+        tail: 0,
+    };
     let mut x = start_status(params, l);
-    reach::enter(visited, x);
+    search.enter(x);
     let mut i = 0;
     let mut head = 0;
-    let mut tail = 0;
     // A walk over a queue that grows while it is read: no range or iterator tells its end.
     loop {
         let row = table::row_at(code, i);
         let y = status_after(row, l, x);
-        let on = flow::go_on(visited, queue, tail, 2, n, row, i, y as u16);
-        tail = on.tail;
-        i = on.at;
-        x = y;
-        if on.going {
+        let on = flow::go_on(&mut search, 2, n, row, i, y as u16);
+        if let Some(next) = on {
+            i = next;
+            x = y;
             continue;
         }
-        if tail <= head {
+        if search.tail <= head {
             return;
         }
-        let u = queue[head] as usize;
+        let u = search.queue[head] as usize;
         head += 1;
         i = u / 2;
         x = u % 2;

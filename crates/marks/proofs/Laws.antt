@@ -1,12 +1,11 @@
 -- Laws of the search for marks: what each list of nodes is, as the code tests it, and visits of them.
 use Prim.Native.Nat.{ℕ, zero, suc, ◌+◌, ◌-◌, ◌*◌, ◌<◌, ◌≤◌}
 use mathlib.Core.Path.{◌≡◌, refl, ap, sym, subst⁻¹, ◌∙◌}
-use mathlib.Core.Bool.{Bool, true, false, cond}
+use mathlib.Core.Bool.{Bool, true, false}
 use mathlib.Core.List.{List, [], ◌∷◌, ◌++◌}
 use native.Mathlib.Nat.{mul-le-mul}
 use native.Mathlib.Omega.{arith}
-use borrow.Author.Tests.{lt-ltb, le-ltb, le-leb, lt-leb, eq-eqb, ne_eqb}
-use lib.Dec.{eqb, ltb}
+use borrow.Author.Tests.{lt-ltb, le-ltb, eq-eqb, ne_eqb}
 use lib.ListN.{length, get_or, replicate, length-replicate}
 use Rattle.reach.specs.Reach.{Mem, Inside, Reached, iter, mark}
 use Rattle.reach.specs.code.Search.{Searched, Visit, after, max_node, visit_of, visit_all}
@@ -14,13 +13,14 @@ use Rattle.reach.proofs.Laws.{length-mark}
 use Rattle.reach.proofs.Search.{reached-step, visited-left, visits-visited, visits-at, seen_stays_all, search_from, taken, finish, tail-le, queued-below}
 use Rattle.table.specs.declared.Row.{Row}
 use Rattle.table.specs.declared.index.Index.{Index}
-use Rattle.table.specs.Format.{procedure_kind, instruction_kind, op_call, op_ret, op_branch, op_branch_cond}
+use Rattle.table.specs.Format.{procedure_kind, instruction_kind, op_ret, op_branch, op_branch_cond}
 use Rattle.table.specs.Rows.{row_at, kind_at, is_kind}
 use Rattle.flow.specs.Places.{nodes_at, nodes_of}
 use Rattle.helpers.specs.Rounds.{up_to}
 use Rattle.helpers.specs.code.Chains.{chain, along}
-use Rattle.entries.specs.code.Entries.{makes_at}
-use Rattle.marks.specs.code.Search.{per_row, next_rows, rows_after, first_at, goes_to, copies, sent_to, code_edges, pushed_at, result_edges, head_edges, place_edges, made_at}
+use Rattle.entries.specs.declared.RowEntry.{RowEntry}
+use Rattle.entries.specs.code.Entries.{no_entry, makes_at}
+use Rattle.marks.specs.code.Search.{next_rows, rows_after, first_at, goes_to, copies, gone, copied, sent_to, code_edges, pushed_at, result_edges, head_edges, place_edges, made_at}
 
 -- The node that is followed is expanded once its successors are visited, and then none is followed.
 module _ {succs : ℕ → List ℕ} {s seen : List Bool} {queue : List ℕ} {head tail u : ℕ} (state : Searched succs s seen queue head tail u) (inside : Inside succs (length s)) (few : length s ≤ max_node + 1) (here-is : u < length s) where
@@ -46,13 +46,13 @@ module _ (row : Row) (at base width place : ℕ) (x : Visit) where
   abbrev places : List ℕ
   places = nodes_of width (next_rows row at base) (place ∷ [])
 
-  pub next-none : row.a ≡ op_ret → x ≡ visit_all x places
+  pub next_none : row.a ≡ op_ret → x ≡ visit_all x places
   unfolding next_rows nodes_of visit_all
-  next-none e = rw e refl
+  next_none e = rw e refl
 
-  pub next-branch : {y : Visit} → row.a ≡ op_branch → y ≡ visit_of x.visited x.queue x.tail (width * (base + row.b) + place) → y ≡ visit_all x places
+  pub next_branch : {y : Visit} → row.a ≡ op_branch → y ≡ visit_of x.visited x.queue x.tail (width * (base + row.b) + place) → y ≡ visit_all x places
   unfolding next_rows nodes_of nodes_at visit_all
-  next-branch e h = rw e h
+  next_branch e h = rw e h
 
   module _ {y : Visit} (first : y ≡ visit_of x.visited x.queue x.tail (width * (at + 1) + place)) where
     pub next_both : {z : Visit} → row.a ≡ op_branch_cond → z ≡ visit_of y.visited y.queue y.tail (width * (base + row.b) + place) → z ≡ visit_all x places
@@ -62,24 +62,6 @@ module _ (row : Row) (at base width place : ℕ) (x : Visit) where
     pub next_one : (row.a ≡ op_ret → ⊥) → (row.a ≡ op_branch → ⊥) → (row.a ≡ op_branch_cond → ⊥) → y ≡ visit_all x places
     unfolding next_rows nodes_of nodes_at visit_all
     next_one r b c = rw (ne_eqb row.a op_ret r, ne_eqb row.a op_branch b, ne_eqb row.a op_branch_cond c) first
-
--- Visits of the node that a mark is sent to.
-module _ (row : Row) (takes sends x : ℕ) (y : Visit) where
-  pub sent-local : x < 16 → y ≡ visit_all y (sent_to row takes sends x)
-  unfolding sent_to visit_all
-  sent-local h = rw (lt-leb 16 x h)
-
-  pub sent-kept : 16 ≤ x → takes ≤ x - 16 → y ≡ visit_all y (sent_to row takes sends x)
-  unfolding sent_to visit_all
-  sent-kept h k = rw (le-leb 16 x h, le-ltb (x - 16) takes k)
-
-  pub sent-none : 16 ≤ x → x - 16 < takes → sends ≡ 0 → y ≡ visit_all y (sent_to row takes sends x)
-  unfolding sent_to visit_all
-  sent-none h k e = rw (le-leb 16 x h, lt-ltb (x - 16) takes k, e)
-
-  pub sent-some : {z : Visit} {first : ℕ} → 16 ≤ x → x - 16 < takes → 0 < sends → first ≡ cond (eqb row.a op_call) 0 16 → z ≡ visit_of y.visited y.queue y.tail (32 * (sends - 1) + first + (takes - 1 - (x - 16))) → z ≡ visit_all y (sent_to row takes sends x)
-  unfolding sent_to visit_all
-  sent-some h k l e q = rw (le-leb 16 x h, lt-ltb (x - 16) takes k, lt-ltb 0 sends l, ← e) q
 
 -- Visits of several lists, one after the other.
 pub visits_append : (xs ys : List ℕ) (x : Visit) → visit_all x (xs ++ ys) ≡ visit_all (visit_all x xs) ys
@@ -95,19 +77,13 @@ visits-rest : (xs ys : List ℕ) (i x : Visit) {y : Visit} → i ≡ visit_all x
 visits-rest xs ys i x e v = e ∙ visits_append xs ys x ∙ ap (λ (z : Visit). visit_all z ys) (sym v)
 
 -- Where a mark goes to after an instruction, and where its copy does.
-abbrev pub gone : Row → ℕ → ℕ → ℕ → ℕ → ℕ → List ℕ
-gone row at base takes gives x = cond (ltb (goes_to row takes gives x) per_row) (nodes_of per_row (next_rows row at base) (goes_to row takes gives x ∷ [])) []
-
-abbrev pub copied : Row → ℕ → ℕ → ℕ → List ℕ
-copied row at base x = cond (copies row x) (nodes_of per_row (next_rows row at base) (16 ∷ [])) []
-
 module _ (row : Row) (at base : ℕ) (w : Visit) where
-  pub gone-some : (takes gives x : ℕ) {y : Visit} {place : ℕ} → place ≡ goes_to row takes gives x → place < 32 → y ≡ visit_all w (nodes_of 32 (next_rows row at base) (place ∷ [])) → y ≡ visit_all w (gone row at base takes gives x)
-  gone-some takes gives x {place = place} e h q = rw (← e, lt-ltb place 32 h) q
+  pub gone_some : (takes gives x : ℕ) {y : Visit} {place : ℕ} → place ≡ goes_to row takes gives x → place < 32 → y ≡ visit_all w (nodes_of 32 (next_rows row at base) (place ∷ [])) → y ≡ visit_all w (gone row at base takes gives x)
+  gone_some takes gives x {place = place} e h q = rw (← e, lt-ltb place 32 h) q
 
-  pub gone-none : (takes gives x : ℕ) {place : ℕ} → place ≡ goes_to row takes gives x → 32 ≤ place → w ≡ visit_all w (gone row at base takes gives x)
+  pub gone_none : (takes gives x : ℕ) {place : ℕ} → place ≡ goes_to row takes gives x → 32 ≤ place → w ≡ visit_all w (gone row at base takes gives x)
   unfolding visit_all
-  gone-none takes gives x {place} e h = rw (← e, le-ltb place 32 h)
+  gone_none takes gives x {place} e h = rw (← e, le-ltb place 32 h)
 
   pub copied_some : (x : ℕ) {y : Visit} → copies row x ≡ true → y ≡ visit_all w (nodes_of 32 (next_rows row at base) (16 ∷ [])) → y ≡ visit_all w (copied row at base x)
   copied_some x e q = rw e q
@@ -116,9 +92,9 @@ module _ (row : Row) (at base : ℕ) (w : Visit) where
   unfolding visit_all
   copied_none x e = rw e
 
-  pub code-visits : (takes gives sends x : ℕ) {y z v : Visit} → y ≡ visit_all w (gone row at base takes gives x) → z ≡ visit_all y (copied row at base x) → v ≡ visit_all z (sent_to row takes sends x) → v ≡ visit_all w (code_edges row at base takes gives sends x)
+  pub code_visits : (takes gives sends x : ℕ) {y z v : Visit} → y ≡ visit_all w (gone row at base takes gives x) → z ≡ visit_all y (copied row at base x) → v ≡ visit_all z (sent_to row takes sends x) → v ≡ visit_all w (code_edges row at base takes gives sends x)
   unfolding code_edges
-  code-visits takes gives sends x p q r = visits-two (gone row at base takes gives x ++ copied row at base x) (sent_to row takes sends x) w (visits-two (gone row at base takes gives x) (copied row at base x) w p q) r
+  code_visits takes gives sends x p q r = visits-two (gone row at base takes gives x ++ copied row at base x) (sent_to row takes sends x) w (visits-two (gone row at base takes gives x) (copied row at base x) w p q) r
 
 -- Along a chain that falls.
 module _ (before : ℕ → ℕ) (falls : (k : ℕ) → before k ≤ k) where
@@ -197,34 +173,34 @@ module _ (t : List ℕ) (r : ℕ) {row : Row} (e : row ≡ row_at t r) where
   kind-not {k} q = ne_eqb (row_at t r).kind k (λ z. q (ap (λ (z : Row). z.kind) e ∙ z))
 
 -- Visits of a procedure's first row, and of the rows after a row.
-module _ (t base : List ℕ) (r : ℕ) (x : Visit) where
-  pub first_some : {kind : ℕ} {y : Visit} → kind ≡ kind_at t r → kind ≡ procedure_kind → y ≡ visit_of x.visited x.queue x.tail (get_or base r 0) → y ≡ visit_all x (first_at t base r)
+module _ (t : List ℕ) (rows : List RowEntry) (r : ℕ) (x : Visit) where
+  pub first_some : {kind : ℕ} {y : Visit} → kind ≡ kind_at t r → kind ≡ procedure_kind → y ≡ visit_of x.visited x.queue x.tail (get_or rows r no_entry).base → y ≡ visit_all x (first_at t rows r)
   unfolding first_at is_kind visit_all
   first_some k e h = rw (← k, e) h
 
-  pub first-none : {kind : ℕ} → kind ≡ kind_at t r → (kind ≡ procedure_kind → ⊥) → x ≡ visit_all x (first_at t base r)
+  pub first_none : {kind : ℕ} → kind ≡ kind_at t r → (kind ≡ procedure_kind → ⊥) → x ≡ visit_all x (first_at t rows r)
   unfolding first_at is_kind visit_all
-  first-none {kind} k e = rw (← k, ne_eqb kind procedure_kind e)
+  first_none {kind} k e = rw (← k, ne_eqb kind procedure_kind e)
 
-  pub after-some : {row : Row} {y : Visit} → row ≡ row_at t r → row.kind ≡ instruction_kind → y ≡ visit_all x (nodes_of 1 (next_rows row r (get_or base r 0)) (0 ∷ [])) → y ≡ visit_all x (rows_after t base r)
+  pub after_some : {row : Row} {y : Visit} → row ≡ row_at t r → row.kind ≡ instruction_kind → y ≡ visit_all x (nodes_of 1 (next_rows row r (get_or rows r no_entry).base) (0 ∷ [])) → y ≡ visit_all x (rows_after t rows r)
   unfolding rows_after
-  after-some e k h = rw (kind-is t r e k, ← e) h
+  after_some e k h = rw (kind-is t r e k, ← e) h
 
-  pub after_none : {row : Row} → row ≡ row_at t r → (row.kind ≡ instruction_kind → ⊥) → x ≡ visit_all x (rows_after t base r)
+  pub after_none : {row : Row} → row ≡ row_at t r → (row.kind ≡ instruction_kind → ⊥) → x ≡ visit_all x (rows_after t rows r)
   unfolding rows_after visit_all
   after_none e k = rw (kind-not t r e k)
 
 -- Visits of where marks are made at a row.
-module _ (t : List ℕ) (ix : Index) (base : List ℕ) (arrives : List Bool) (r : ℕ) (x : Visit) where
-  pub made_some : {row : Row} {y : Visit} → get_or arrives r false ≡ true → makes_at t ix r ≡ true → row ≡ row_at t r → y ≡ visit_all x (nodes_of 32 (next_rows row r (get_or base r 0)) (16 ∷ [])) → y ≡ visit_all x (made_at t ix base arrives r)
+module _ (t : List ℕ) (ix : Index) (rows : List RowEntry) (arrives : List Bool) (r : ℕ) (x : Visit) where
+  pub made_some : {row : Row} {y : Visit} → get_or arrives r false ≡ true → makes_at t ix r ≡ true → row ≡ row_at t r → y ≡ visit_all x (nodes_of 32 (next_rows row r (get_or rows r no_entry).base) (16 ∷ [])) → y ≡ visit_all x (made_at t ix rows arrives r)
   unfolding made_at
   made_some a m e h = rw (a, m, ← e) h
 
-  pub made_none : get_or arrives r false ≡ true → makes_at t ix r ≡ false → x ≡ visit_all x (made_at t ix base arrives r)
+  pub made_none : get_or arrives r false ≡ true → makes_at t ix r ≡ false → x ≡ visit_all x (made_at t ix rows arrives r)
   unfolding made_at visit_all
   made_none a m = rw (a, m)
 
-  pub made_missed : get_or arrives r false ≡ false → x ≡ visit_all x (made_at t ix base arrives r)
+  pub made_missed : get_or arrives r false ≡ false → x ≡ visit_all x (made_at t ix rows arrives r)
   unfolding made_at visit_all
   made_missed a = rw a
 
@@ -243,16 +219,16 @@ module _ (before : List ℕ) (arrives : List Bool) (params results base start x 
   head_result h q = rw (le-ltb x 16 h) q
 
 -- Visits of what comes after a row.
-module _ (t takes gives base sends before last : List ℕ) (arrives : List Bool) (r x : ℕ) (w : Visit) {row : Row} (e : row ≡ row_at t r) where
-  pub place_head : {y : Visit} {start : ℕ} → row.kind ≡ procedure_kind → start ≡ get_or last (get_or sends r 0) 0 → y ≡ visit_all w (head_edges before arrives (get_or takes r 0) (get_or gives r 0) (get_or base r 0) start x) → y ≡ visit_all w (place_edges t takes gives base sends before last arrives r x)
+module _ (t : List ℕ) (rows : List RowEntry) (before last : List ℕ) (arrives : List Bool) (r x : ℕ) (w : Visit) {row : Row} (e : row ≡ row_at t r) where
+  pub place_head : {y : Visit} {start : ℕ} → row.kind ≡ procedure_kind → start ≡ get_or last (get_or rows r no_entry).sends 0 → y ≡ visit_all w (head_edges before arrives (get_or rows r no_entry).takes (get_or rows r no_entry).gives (get_or rows r no_entry).base start x) → y ≡ visit_all w (place_edges t rows before last arrives r x)
   unfolding place_edges
   place_head k s h = rw (kind-is t r e k, ← s) h
 
-  pub place-code : {y : Visit} → (row.kind ≡ procedure_kind → ⊥) → row.kind ≡ instruction_kind → y ≡ visit_all w (code_edges row r (get_or base r 0) (get_or takes r 0) (get_or gives r 0) (get_or sends r 0) x) → y ≡ visit_all w (place_edges t takes gives base sends before last arrives r x)
+  pub place_code : {y : Visit} → (row.kind ≡ procedure_kind → ⊥) → row.kind ≡ instruction_kind → y ≡ visit_all w (code_edges row r (get_or rows r no_entry).base (get_or rows r no_entry).takes (get_or rows r no_entry).gives (get_or rows r no_entry).sends x) → y ≡ visit_all w (place_edges t rows before last arrives r x)
   unfolding place_edges
-  place-code n k h = rw (kind-not t r e n, kind-is t r e k, ← e) h
+  place_code n k h = rw (kind-not t r e n, kind-is t r e k, ← e) h
 
-  pub place_none : (row.kind ≡ procedure_kind → ⊥) → (row.kind ≡ instruction_kind → ⊥) → w ≡ visit_all w (place_edges t takes gives base sends before last arrives r x)
+  pub place_none : (row.kind ≡ procedure_kind → ⊥) → (row.kind ≡ instruction_kind → ⊥) → w ≡ visit_all w (place_edges t rows before last arrives r x)
   unfolding place_edges visit_all
   place_none n k = rw (kind-not t r e n, kind-not t r e k)
 

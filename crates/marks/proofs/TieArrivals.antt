@@ -17,6 +17,7 @@ use Rattle.helpers.specs.Tables.{procedure_of}
 use Rattle.helpers.proofs.Net.{follow, follows, entry_of, entries, arrived}
 use Rattle.helpers.proofs.Graph.{rows_inside, entries_below}
 use Rattle.helpers.proofs.Tied.{layout_of, fits, placed}
+use Rattle.entries.specs.declared.RowEntry.{RowEntry}
 use Rattle.entries.specs.code.Entries.{Filled}
 use Rattle.marks.specs.code.Search.{rows_after, first_at}
 use Rattle.marks.proofs.TieRows.{RowIs, is_head, is_code, is_other, row_is, next_tied, first-is}
@@ -38,38 +39,38 @@ unfolding nodes_of nodes_at
 each_row [] = refl
 each_row (j ∷ js) = let z : 1 * j + 0 ≡ j = omega arith in rw (z, each_row js) refl
 
-module _ (t : List ℕ) (f : Formed t) {takes gives base sends calls : List ℕ} (filled : Filled t (index_of t) takes gives base sends calls (row_count t)) where
-  pub rows_tied : (r : ℕ) → r < row_count t → rows_after t base r ≡ follows (procedure_of t) (layout_of t) r
+module _ (t : List ℕ) (f : Formed t) {rows : List RowEntry} (filled : Filled t (index_of t) rows (row_count t)) where
+  pub rows_tied : (r : ℕ) → r < row_count t → rows_after t rows r ≡ follows (procedure_of t) (layout_of t) r
   unfolding rows_after follows follow layout_of
   rows_tied r h = go (row_is t f r h)
     where
-      go : RowIs t r → rows_after t base r ≡ follows (procedure_of t) (layout_of t) r
+      go : RowIs t r → rows_after t rows r ≡ follows (procedure_of t) (layout_of t) r
       go (is_head q c) = rw (c.code, c.spot) refl
       go (is_code q i c) = rw (c.code, c.spot) (each_row _ ∙ next_tied t f filled c)
       go (is_other c) = rw (c.code, c.spot) refl
 
-  first_tied : (r : ℕ) → r < row_count t → first_at t base r ≡ entry_of (procedure_of t) (layout_of t) ((layout_of t).spot r)
+  first_tied : (r : ℕ) → r < row_count t → first_at t rows r ≡ entry_of (procedure_of t) (layout_of t) ((layout_of t).spot r)
   unfolding first_at entry_of layout_of
   first_tied r h = go (row_is t f r h)
     where
-      go : RowIs t r → first_at t base r ≡ entry_of (procedure_of t) (layout_of t) ((layout_of t).spot r)
+      go : RowIs t r → first_at t rows r ≡ entry_of (procedure_of t) (layout_of t) ((layout_of t).spot r)
       go (is_head q c) = rw (c.head, c.spot, first-is t f filled c) refl
       go (is_code q i c) = rw (c.head, c.spot) refl
       go (is_other c) = rw (c.head, c.spot) refl
 
-  pub firsts_tied : up_to (first_at t base) (row_count t) ≡ entries (procedure_of t) (layout_of t)
+  pub firsts_tied : up_to (first_at t rows) (row_count t) ≡ entries (procedure_of t) (layout_of t)
   unfolding entries layout_of
   firsts_tied = up_to-same _ _ (row_count t) first_tied
 
-  pub rows_inside' : Inside (rows_after t base) (row_count t)
+  pub rows_inside' : Inside (rows_after t rows) (row_count t)
   unfolding layout_of
   rows_inside' u v h m = rows_inside (procedure_of t) (index_of t).procedures (fits t f) (layout_of t) (placed t f) u v h (rw (rows_tied u h) at m)
 
-  pub firsts_below : (v : ℕ) → Mem v (up_to (first_at t base) (row_count t)) → v < row_count t
+  pub firsts_below : (v : ℕ) → Mem v (up_to (first_at t rows) (row_count t)) → v < row_count t
   unfolding layout_of
   firsts_below v m = entries_below (procedure_of t) (index_of t).procedures (fits t f) (layout_of t) (placed t f) v (rw firsts_tied at m)
 
   -- THE ARRIVALS
-  pub arrived_tied : iter (rows_after t base) (row_count t) (mark (replicate (row_count t) false) (up_to (first_at t base) (row_count t))) ≡ arrived (procedure_of t) (layout_of t)
+  pub arrived_tied : iter (rows_after t rows) (row_count t) (mark (replicate (row_count t) false) (up_to (first_at t rows) (row_count t))) ≡ arrived (procedure_of t) (layout_of t)
   unfolding arrived layout_of
-  arrived_tied = search-same (rows_after t base) (follows (procedure_of t) (layout_of t)) (row_count t) _ _ rows_tied firsts_tied
+  arrived_tied = search-same (rows_after t rows) (follows (procedure_of t) (layout_of t)) (row_count t) _ _ rows_tied firsts_tied

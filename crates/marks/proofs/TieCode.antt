@@ -23,7 +23,8 @@ use Rattle.helpers.specs.Tables.{is_private, is_helper, procedure_of}
 use Rattle.helpers.proofs.Net.{codes, Layout, mark_node, mark_nodes_of, after, inside, edges}
 use Rattle.helpers.proofs.Under.{length-fresh}
 use Rattle.helpers.proofs.Tied.{layout_of, fits, helper-is}
-use Rattle.entries.specs.code.Entries.{kept, sends_to, Filled}
+use Rattle.entries.specs.declared.RowEntry.{RowEntry}
+use Rattle.entries.specs.code.Entries.{no_entry, kept, sends_to, Filled}
 use Rattle.marks.specs.code.Search.{per_row, next_rows, goes_to, copies, sent_to, code_edges}
 use Rattle.marks.proofs.TieRows.{CodeRow, step_is, next-rows, takes_are, gives_are, base-is, sends_are}
 use Rattle.marks.proofs.TieMoves.{nodes_if, moved}
@@ -137,8 +138,8 @@ module _ (t : List ℕ) (f : Formed t) where
             (λ k. omega (arith, (fits t f).returned q c.there i (opcode_tied ∙ k), ltb-true (x - 16) ((procedure_of t q).step i).takes d)))
 
     -- THE NODES AFTER A PLACE OF AN INSTRUCTION
-    pub code_tied : {takes gives base sends calls : List ℕ} → Filled t (index_of t) takes gives base sends calls (row_count t) → (x : ℕ)
-        → code_edges (row_at t r) r (get_or base r 0) (get_or takes r 0) (get_or gives r 0) (get_or sends r 0) x ≡ edges (procedure_of t) (layout_of t) (codes q i) x
+    pub code_tied : {rows : List RowEntry} → Filled t (index_of t) rows (row_count t) → (x : ℕ)
+        → code_edges (row_at t r) r (get_or rows r no_entry).base (get_or rows r no_entry).takes (get_or rows r no_entry).gives (get_or rows r no_entry).sends x ≡ edges (procedure_of t) (layout_of t) (codes q i) x
     unfolding code_edges edges
     code_tied filled x =
         rw (base-is t f filled c, takes_are t f filled c, gives_are t f filled c, sends_are t f filled c, next-rows t f c, sent_tied x, code-moved x) refl

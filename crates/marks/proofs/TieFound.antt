@@ -18,6 +18,7 @@ use Rattle.helpers.specs.Tables.{borrows_guarded, procedure_of, marks_in}
 use Rattle.helpers.proofs.Net as Net
 use Rattle.helpers.proofs.Graph.{no_sources, stays-inside, found-operand}
 use Rattle.helpers.proofs.Tied.{layout_of, fits, placed, nodes_tied}
+use Rattle.entries.specs.declared.RowEntry.{RowEntry}
 use Rattle.entries.specs.code.Entries.{Filled, Linked, makes_at, makes_some}
 use Rattle.marks.specs.code.Search.{per_row, place_edges, edges, made_at}
 use Rattle.marks.specs.code.Found.{Found}
@@ -67,33 +68,33 @@ module _ (t : List ℕ) (f : Formed t) where
   unfolding Net.sources layout_of
   none_found e = rw (no_sources (procedure_of t) (layout_of t) (up_to-none _ (row_count t) (λ r h. source_none r h (makes_none (row_count t) r e h)))) at found_are
 
-  module _ {takes gives base sends calls before last : List ℕ} (filled : Filled t (index_of t) takes gives base sends calls (row_count t)) (linked : Linked calls last before (row_count t))
+  module _ {rows : List RowEntry} {before last : List ℕ} (filled : Filled t (index_of t) rows (row_count t)) (linked : Linked rows last before (row_count t))
       (lasts : length last ≡ 128) (befores : length before ≡ row_count t) {arrives : List Bool} (come : arrives ≡ Net.arrived (procedure_of t) (layout_of t)) where
-    place_tied : (r x : ℕ) → r < row_count t → place_edges t takes gives base sends before last arrives r x ≡ Net.edges (procedure_of t) (layout_of t) ((layout_of t).spot r) x
+    place_tied : (r x : ℕ) → r < row_count t → place_edges t rows before last arrives r x ≡ Net.edges (procedure_of t) (layout_of t) ((layout_of t).spot r) x
     unfolding place_edges Net.edges layout_of
     place_tied r x h = rw come (go (row_is t f r h))
       where
-        go : RowIs t r → place_edges t takes gives base sends before last (Net.arrived (procedure_of t) (layout_of t)) r x ≡ Net.edges (procedure_of t) (layout_of t) ((layout_of t).spot r) x
+        go : RowIs t r → place_edges t rows before last (Net.arrived (procedure_of t) (layout_of t)) r x ≡ Net.edges (procedure_of t) (layout_of t) ((layout_of t).spot r) x
         go (is_head q c) = rw (c.head, c.spot) (head_tied t f filled linked lasts befores c x)
         go (is_code q i c) = rw (c.head, c.code, c.spot) (code_tied t f c filled x)
         go (is_other c) = rw (c.head, c.code, c.spot) refl
 
     -- THE GRAPH
-    pub edges_tied : (u : ℕ) → u < per_row * row_count t → edges t takes gives base sends before last arrives u ≡ Net.graph (procedure_of t) (layout_of t) u
+    pub edges_tied : (u : ℕ) → u < per_row * row_count t → edges t rows before last arrives u ≡ Net.graph (procedure_of t) (layout_of t) u
     unfolding edges Net.graph
     edges_tied u h = place_tied (u / per_row) (u % per_row) (omega arith)
 
-    pub edges-inside : Inside (edges t takes gives base sends before last arrives) (per_row * row_count t)
+    pub edges-inside : Inside (edges t rows before last arrives) (per_row * row_count t)
     unfolding layout_of
     edges-inside u v h m = stays-inside (procedure_of t) (index_of t).procedures (fits t f) (layout_of t) (placed t f) u v h (rw (edges_tied u h) at m)
 
     -- THE SEARCH
-    pub found_tied : iter (edges t takes gives base sends before last arrives) (per_row * row_count t) (mark (replicate (per_row * row_count t) false) (up_to (made_at t (index_of t) base arrives) (row_count t)))
+    pub found_tied : iter (edges t rows before last arrives) (per_row * row_count t) (mark (replicate (per_row * row_count t) false) (up_to (made_at t (index_of t) rows arrives) (row_count t)))
         ≡ Net.found (procedure_of t) (layout_of t)
     unfolding Net.found Net.source_set layout_of
-    found_tied = search-same (edges t takes gives base sends before last arrives) (Net.graph (procedure_of t) (layout_of t)) (per_row * row_count t) _ _ edges_tied (made_tied t f filled come)
+    found_tied = search-same (edges t rows before last arrives) (Net.graph (procedure_of t) (layout_of t)) (per_row * row_count t) _ _ edges_tied (made_tied t f filled come)
 
     pub is_found : {seen : List Bool}
-        → seen ≡ iter (edges t takes gives base sends before last arrives) (per_row * row_count t) (mark (replicate (per_row * row_count t) false) (up_to (made_at t (index_of t) base arrives) (row_count t)))
+        → seen ≡ iter (edges t rows before last arrives) (per_row * row_count t) (mark (replicate (per_row * row_count t) false) (up_to (made_at t (index_of t) rows arrives) (row_count t)))
         → Found t seen
     is_found e = rw (e ∙ found_tied) found_are

@@ -21,7 +21,8 @@ use Rattle.helpers.specs.Tables.{procedure_of}
 use Rattle.helpers.proofs.Net as Net
 use Rattle.helpers.proofs.Sites.{last_site, sites, result-edges}
 use Rattle.helpers.proofs.Tied.{layout_of, call_counts}
-use Rattle.entries.specs.code.Entries.{kept, called_by, last_call, Filled, Linked}
+use Rattle.entries.specs.declared.RowEntry.{RowEntry}
+use Rattle.entries.specs.code.Entries.{no_entry, kept, called_by, last_call, Filled, Linked}
 use Rattle.marks.specs.code.Search.{per_row, pushed_at, result_edges, head_edges}
 use Rattle.marks.proofs.TieRows.{HeadRow, RowIs, is_head, is_code, is_other, row_is, calls_are, parameters_are, results_are, first-is, number_is, head_calls, other_calls}
 use Rattle.marks.proofs.TieCode.{opcode_tied, operand_tied, one-next}
@@ -46,10 +47,10 @@ kept_same b q h = go (ltb b 65535) (eqb b q) refl refl
     go false true k d = absurd (omega (arith, ltb-false b 65535 k, eqb-true b q d))
     go false false k d = ne_eqb 0 (q + 1) (λ z. omega arith)
 
-module _ (t : List ℕ) (f : Formed t) {takes gives base sends calls : List ℕ} (filled : Filled t (index_of t) takes gives base sends calls (row_count t)) where
+module _ (t : List ℕ) (f : Formed t) {rows : List RowEntry} (filled : Filled t (index_of t) rows (row_count t)) where
   -- Call sites.
 
-  site_tied : (q r : ℕ) → q < 65535 → r < row_count t → eqb (get_or calls r 0) (q + 1) ≡ sites (procedure_of t) (layout_of t) q r
+  site_tied : (q r : ℕ) → q < 65535 → r < row_count t → eqb (get_or rows r no_entry).calls (q + 1) ≡ sites (procedure_of t) (layout_of t) q r
   unfolding Net.calls_at layout_of called_by
   site_tied q r h b = go (row_is t f r b)
     where
@@ -60,12 +61,12 @@ module _ (t : List ℕ) (f : Formed t) {takes gives base sends calls : List ℕ}
       called true n = kept_same n q h
       called false n = none
 
-      go : RowIs t r → eqb (get_or calls r 0) (q + 1) ≡ sites (procedure_of t) (layout_of t) q r
+      go : RowIs t r → eqb (get_or rows r no_entry).calls (q + 1) ≡ sites (procedure_of t) (layout_of t) q r
       go (is_head p c) = rw (head_calls t f filled c, c.spot) none
       go (is_code p i c) = rw (calls_are t f filled c, c.spot, opcode_tied t f c, operand_tied t f c) (called (eqb (row_at t r).a op_call) (row_at t r).b)
       go (is_other c) = rw (other_calls t f filled c b, c.spot) none
 
-  last_tied : (q n : ℕ) → q < 65535 → n ≤ row_count t → last_call calls q n ≡ last_site (sites (procedure_of t) (layout_of t)) q n
+  last_tied : (q n : ℕ) → q < 65535 → n ≤ row_count t → last_call rows q n ≡ last_site (sites (procedure_of t) (layout_of t)) q n
   unfolding last_call last_site
   last_tied q zero h b = refl
   last_tied q (suc n) h b = rw (site_tied q n h (omega arith), last_tied q n h (omega arith)) refl
@@ -95,10 +96,10 @@ module _ (t : List ℕ) (f : Formed t) {takes gives base sends calls : List ℕ}
           (push (get_or (Net.arrived (procedure_of t) (layout_of t)) r false) (ltb k ((own t q).code - (own t q).results)) (per_row * (r + 1) + (16 + ((own t q).code - (own t q).results - 1 - k))))
       go (is_other c) = absurd (false≢true (rw c.spot at s))
 
-  module _ {before last : List ℕ} (linked : Linked calls last before (row_count t)) (lasts : length last ≡ 128) (befores : length before ≡ row_count t) where
+  module _ {before last : List ℕ} (linked : Linked rows last before (row_count t)) (lasts : length last ≡ 128) (befores : length before ≡ row_count t) where
     before_tied : (q r : ℕ) → q < 128 → r < row_count t → sites (procedure_of t) (layout_of t) q r ≡ true → get_or before r 0 ≡ last_site (sites (procedure_of t) (layout_of t)) q r
     before_tied q r h b s =
-        linked.befores r q b (rw lasts h) (eqb-true (get_or calls r 0) (q + 1) (site_tied q r (omega arith) b ∙ s)) ∙ last_tied q r (omega arith) (omega arith)
+        linked.befores r q b (rw lasts h) (eqb-true (get_or rows r no_entry).calls (q + 1) (site_tied q r (omega arith) b ∙ s)) ∙ last_tied q r (omega arith) (omega arith)
 
     -- the nodes after result k of procedure q
     result_tied : (q k : ℕ) → q < 128
@@ -110,7 +111,7 @@ module _ (t : List ℕ) (f : Formed t) {takes gives base sends calls : List ℕ}
 
     -- THE NODES AFTER A PLACE OF A PROCEDURE'S OWN ROW
     pub head_tied : {r q : ℕ} → HeadRow t r q → (x : ℕ)
-        → head_edges before (Net.arrived (procedure_of t) (layout_of t)) (get_or takes r 0) (get_or gives r 0) (get_or base r 0) (get_or last (get_or sends r 0) 0) x
+        → head_edges before (Net.arrived (procedure_of t) (layout_of t)) (get_or rows r no_entry).takes (get_or rows r no_entry).gives (get_or rows r no_entry).base (get_or last (get_or rows r no_entry).sends 0) x
         ≡ Net.edges (procedure_of t) (layout_of t) (Net.heads q) x
     unfolding head_edges Net.edges layout_of
     head_tied {r} {q} c x =

@@ -31,7 +31,8 @@ use Rattle.helpers.specs.Tables.{borrows_guarded, marks_under, procedure_of}
 use Rattle.helpers.proofs.Net.{lower, after, arrived, inside, source_of, sources}
 use Rattle.helpers.proofs.Graph.{sources_below}
 use Rattle.helpers.proofs.Tied.{layout_of, fits, placed}
-use Rattle.entries.specs.code.Entries.{Filled, makes_at}
+use Rattle.entries.specs.declared.RowEntry.{RowEntry}
+use Rattle.entries.specs.code.Entries.{no_entry, Filled, makes_at}
 use Rattle.marks.specs.code.Search.{per_row, next_rows, made_at}
 use Rattle.marks.proofs.TieRows.{RowIs, is_head, is_code, is_other, CodeRow, row_is, step_is, next_tied}
 use Rattle.marks.proofs.TieArrivals.{up_to-same}
@@ -99,13 +100,13 @@ module _ (t : List ℕ) (f : Formed t) where
       go true = refl
       go false = no_nodes per_row (after (procedure_of t) (layout_of t) q i)
 
-  module _ {takes gives base sends calls : List ℕ} (filled : Filled t (index_of t) takes gives base sends calls (row_count t)) where
-    row_made : (r : ℕ) → r < row_count t → made_at t (index_of t) base (arrived (procedure_of t) (layout_of t)) r ≡ source_of (procedure_of t) (layout_of t) r ((layout_of t).spot r)
+  module _ {rows : List RowEntry} (filled : Filled t (index_of t) rows (row_count t)) where
+    row_made : (r : ℕ) → r < row_count t → made_at t (index_of t) rows (arrived (procedure_of t) (layout_of t)) r ≡ source_of (procedure_of t) (layout_of t) r ((layout_of t).spot r)
     unfolding made_at makes_at source_of layout_of
     row_made r h = cond_and (get_or (arrived (procedure_of t) (layout_of t)) r false) (makes_at t (index_of t) r) _ ∙ go (row_is t f r h)
       where
         go : RowIs t r
-            → cond (get_or (arrived (procedure_of t) (layout_of t)) r false) (cond (makes_at t (index_of t) r) (nodes_of per_row (next_rows (row_at t r) r (get_or base r 0)) (16 ∷ [])) []) []
+            → cond (get_or (arrived (procedure_of t) (layout_of t)) r false) (cond (makes_at t (index_of t) r) (nodes_of per_row (next_rows (row_at t r) r (get_or rows r no_entry).base) (16 ∷ [])) []) []
             ≡ source_of (procedure_of t) (layout_of t) r ((layout_of t).spot r)
         go (is_head q c) = rw (c.code, c.spot) (cond_same (get_or (arrived (procedure_of t) (layout_of t)) r false) [])
         go (is_code q i c) = rw (c.code, c.spot, next_tied t f filled c, own-inside c) refl
@@ -113,10 +114,10 @@ module _ (t : List ℕ) (f : Formed t) where
 
     module _ {arrives : List Bool} (come : arrives ≡ arrived (procedure_of t) (layout_of t)) where
       -- THE START
-      pub made_tied : up_to (made_at t (index_of t) base arrives) (row_count t) ≡ sources (procedure_of t) (layout_of t)
+      pub made_tied : up_to (made_at t (index_of t) rows arrives) (row_count t) ≡ sources (procedure_of t) (layout_of t)
       unfolding sources layout_of
       made_tied = rw come (up_to-same _ _ (row_count t) row_made)
 
-      pub made-below : (v : ℕ) → Mem v (up_to (made_at t (index_of t) base arrives) (row_count t)) → v < per_row * row_count t
+      pub made-below : (v : ℕ) → Mem v (up_to (made_at t (index_of t) rows arrives) (row_count t)) → v < per_row * row_count t
       unfolding layout_of
       made-below v m = sources_below (procedure_of t) (index_of t).procedures (fits t f) (layout_of t) (placed t f) v (rw made_tied at m)

@@ -1,6 +1,6 @@
 -- What a row of a table is, and what the arrays hold of it.
 use Prim.Native.Nat.{ℕ, ◌+◌, ◌-◌, ◌<◌}
-use mathlib.Core.Path.{◌≡◌, refl, sym, ◌∙◌}
+use mathlib.Core.Path.{ap, ◌≡◌, refl, sym, ◌∙◌}
 use mathlib.Core.Bool.{Bool, true, false, cond}
 use mathlib.Core.List.{List, [], ◌∷◌}
 use native.Mathlib.Omega.{arith}
@@ -23,7 +23,8 @@ use Rattle.sizes.proofs.Inside as Inside
 use Rattle.helpers.specs.Tables.{marks_under, procedure_of}
 use Rattle.helpers.proofs.Net.{heads, codes, blank, rows_from, after}
 use Rattle.helpers.proofs.Tied.{spot_at, layout_of, spot_head, spot_code, spot_other, next-at, step-at}
-use Rattle.entries.specs.code.Entries.{sends_to, called_by, head_entry, code_entry, no_entry, entry_by, entry_for, entry_at, Filled}
+use Rattle.entries.specs.declared.RowEntry.{RowEntry}
+use Rattle.entries.specs.code.Entries.{no_entry, sends_to, called_by, head_entry, code_entry, no_entry, entry_by, entry_for, entry_at, Filled}
 use Rattle.marks.specs.code.Search.{next_rows}
 
 -- a procedure's own row
@@ -101,29 +102,29 @@ module _ (t : List ℕ) (f : Formed t) where
         go false false false first b e = rw e refl
 
   -- what the arrays hold
-  module _ {takes gives base sends calls : List ℕ} (filled : Filled t (index_of t) takes gives base sends calls (row_count t)) where
+  module _ {rows : List RowEntry} (filled : Filled t (index_of t) rows (row_count t)) where
     module _ {r q i : ℕ} (c : CodeRow t r q i) where
-      pub takes_are : get_or takes r 0 ≡ ((procedure_of t q).step i).takes
+      pub takes_are : (get_or rows r no_entry).takes ≡ ((procedure_of t q).step i).takes
       unfolding code_entry step_of
-      takes_are = filled.takes_at r (code_below c) ∙ (rw (c.entry, step_is c) refl)
+      takes_are = ap (λ (z : RowEntry). z.takes) (filled.entries-are r (code_below c)) ∙ (rw (c.entry, step_is c) refl)
 
-      pub gives_are : get_or gives r 0 ≡ length ((procedure_of t q).step i).fresh
+      pub gives_are : (get_or rows r no_entry).gives ≡ length ((procedure_of t q).step i).fresh
       unfolding code_entry step_of
-      gives_are = filled.gives_at r (code_below c) ∙ (rw (c.entry, step_is c) (sym (length-tabulate _ _)))
+      gives_are = ap (λ (z : RowEntry). z.gives) (filled.entries-are r (code_below c)) ∙ (rw (c.entry, step_is c) (sym (length-tabulate _ _)))
 
-      pub base-is : get_or base r 0 ≡ (own t q).code
+      pub base-is : (get_or rows r no_entry).base ≡ (own t q).code
       unfolding code_entry
-      base-is = filled.base-at r (code_below c) ∙ (rw c.entry refl)
+      base-is = ap (λ (z : RowEntry). z.base) (filled.entries-are r (code_below c)) ∙ (rw c.entry refl)
 
-      pub sends_are : get_or sends r 0 ≡ sends_to t (own t q) (own t (row_at t r).b) (row_at t r)
+      pub sends_are : (get_or rows r no_entry).sends ≡ sends_to t (own t q) (own t (row_at t r).b) (row_at t r)
       unfolding code_entry
-      sends_are = filled.sends-at r (code_below c) ∙ (rw c.entry refl)
+      sends_are = ap (λ (z : RowEntry). z.sends) (filled.entries-are r (code_below c)) ∙ (rw c.entry refl)
 
-      pub calls_are : get_or calls r 0 ≡ called_by (row_at t r)
+      pub calls_are : (get_or rows r no_entry).calls ≡ called_by (row_at t r)
       unfolding code_entry
-      calls_are = filled.calls_at r (code_below c) ∙ (rw c.entry refl)
+      calls_are = ap (λ (z : RowEntry). z.calls) (filled.entries-are r (code_below c)) ∙ (rw c.entry refl)
 
-      pub next_tied : next_rows (row_at t r) r (get_or base r 0) ≡ after (procedure_of t) (layout_of t) q i
+      pub next_tied : next_rows (row_at t r) r (get_or rows r no_entry).base ≡ after (procedure_of t) (layout_of t) q i
       next_tied = rw base-is (next-rows c)
 
     -- of a procedure's own row
@@ -131,26 +132,26 @@ module _ (t : List ℕ) (f : Formed t) where
       head_below : r < row_count t
       head_below = rw c.row at (Inside.head_below t f q c.there)
 
-      pub parameters_are : get_or takes r 0 ≡ (procedure_of t q).params
+      pub parameters_are : (get_or rows r no_entry).takes ≡ (procedure_of t q).params
       unfolding head_entry procedure_of
-      parameters_are = filled.takes_at r head_below ∙ (rw c.entry refl)
+      parameters_are = ap (λ (z : RowEntry). z.takes) (filled.entries-are r head_below) ∙ (rw c.entry refl)
 
-      pub results_are : get_or gives r 0 ≡ (own t q).code - (own t q).results
+      pub results_are : (get_or rows r no_entry).gives ≡ (own t q).code - (own t q).results
       unfolding head_entry
-      results_are = filled.gives_at r head_below ∙ (rw c.entry refl)
+      results_are = ap (λ (z : RowEntry). z.gives) (filled.entries-are r head_below) ∙ (rw c.entry refl)
 
-      pub first-is : get_or base r 0 ≡ (own t q).code
+      pub first-is : (get_or rows r no_entry).base ≡ (own t q).code
       unfolding head_entry
-      first-is = filled.base-at r head_below ∙ (rw c.entry refl)
+      first-is = ap (λ (z : RowEntry). z.base) (filled.entries-are r head_below) ∙ (rw c.entry refl)
 
-      pub number_is : get_or sends r 0 ≡ q
+      pub number_is : (get_or rows r no_entry).sends ≡ q
       unfolding head_entry
-      number_is = filled.sends-at r head_below ∙ (rw c.entry refl)
+      number_is = ap (λ (z : RowEntry). z.sends) (filled.entries-are r head_below) ∙ (rw c.entry refl)
 
-      pub head_calls : get_or calls r 0 ≡ 0
+      pub head_calls : (get_or rows r no_entry).calls ≡ 0
       unfolding head_entry
-      head_calls = filled.calls_at r head_below ∙ (rw c.entry refl)
+      head_calls = ap (λ (z : RowEntry). z.calls) (filled.entries-are r head_below) ∙ (rw c.entry refl)
 
     -- no other row calls
-    pub other_calls : {r : ℕ} → OtherRow t r → r < row_count t → get_or calls r 0 ≡ 0
-    other_calls {r} c h = filled.calls_at r h ∙ (rw c.entry refl)
+    pub other_calls : {r : ℕ} → OtherRow t r → r < row_count t → (get_or rows r no_entry).calls ≡ 0
+    other_calls {r} c h = ap (λ (z : RowEntry). z.calls) (filled.entries-are r h) ∙ (rw c.entry refl)

@@ -7,7 +7,7 @@ use mathlib.Core.Bool.{Bool, true, false, not, ◌&&◌, false≢true, and-false
 use mathlib.Core.Logic.{◌⊎◌, ⊎_elim}
 use native.Mathlib.Decide.{ℕ_discrete}
 use native.Mathlib.Omega.{arith}
-use borrow.Author.Tests.{ltb-true, lt-ltb, le-ltb, le-leb, lt-leb}
+use borrow.Author.Tests.{ltb-true, lt-ltb, le-leb}
 use lib.Dec.{ltb, leb}
 use lib.ListN.{length, get_or, set, replicate, length-set, length-replicate}
 use lib.Seq.{get_or-set_same, get_or-set_other}
@@ -157,24 +157,6 @@ module _ {succs : ℕ → List ℕ} {s seen : List Bool} {queue : List ℕ} {hea
 -- A visit.
 
 module _ (seen : List Bool) (queue : List ℕ) (tail v : ℕ) where
-  -- a visit of a visited node changes nothing
-  pub visit_old : At seen v → visit_of seen queue tail v ≡ after seen queue tail
-  unfolding visit_of is_new
-  visit_old h = simp (h, and-false)
-
-  -- nor does one of a number that is no node, one with a full queue, and one of a number that is too large for the queue
-  pub visit_outside : length seen ≤ v → visit_of seen queue tail v ≡ after seen queue tail
-  unfolding visit_of is_new
-  visit_outside h = rw (le-ltb v (length seen) h)
-
-  pub visit_full : length queue ≤ tail → visit_of seen queue tail v ≡ after seen queue tail
-  unfolding visit_of is_new
-  visit_full h = rw (le-ltb tail (length queue) h, and-false)
-
-  pub visit_large : max_node < v → visit_of seen queue tail v ≡ after seen queue tail
-  unfolding visit_of is_new
-  visit_large h = rw (lt-leb v max_node h, and-false)
-
   -- a visit of a new node marks it and puts it into the queue
   pub visit_fresh :
       v < length seen
@@ -263,6 +245,11 @@ pub count_stays_all : (x : Visit) (vs : List ℕ) → count_true x.visited ≤ c
 count_stays_all x vs =
     visits_by (λ y. count_true x.visited ≤ count_true y.visited) vs
     (λ y v m p. visit_by y.visited y.queue y.tail v (λ z. count_true x.visited ≤ count_true z.visited) p (λ h n. omega (arith, count_set y.visited v h (λ a. false≢true (sym n ∙ a)))) refl) x (omega arith)
+
+pub length-visits : (x : Visit) (vs : List ℕ) → (length (visit_all x vs).visited ≡ length x.visited) × (length (visit_all x vs).queue ≡ length x.queue)
+length-visits x vs =
+    visits_by (λ y. (length y.visited ≡ length x.visited) × (length y.queue ≡ length x.queue)) vs
+    (λ y v m p. visit_by y.visited y.queue y.tail v (λ z. (length z.visited ≡ length x.visited) × (length z.queue ≡ length x.queue)) p (λ h n. (simp length-set p.0, simp length-set p.1)) refl) x (refl, refl)
 
 module _ (succs : ℕ → List ℕ) (s : List Bool) where
   -- visits of reached nodes keep how the others stand, and visit them all

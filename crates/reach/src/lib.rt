@@ -2,7 +2,7 @@
 #![tactic(auto)]
 
 ghost use Rattle.std.specs.Prelude.{◌≡◌, false, length, replicate};
-ghost use Rattle.reach.specs.code.Search.{after, visit_of, is_unvisited, entering};
+ghost use Rattle.reach.specs.code.Search.{state, SameSlices, after, visit_of, is_unvisited, entering};
 
 // The largest node number that an entry of the queue has room for.
 const MAX_NODE: usize = 65535;
@@ -11,45 +11,50 @@ const MAX_NODE: usize = 65535;
 pub fn clear(visited: &mut [bool])
     ensures { visited.new ≡ replicate (length visited.old) false }
 {
-    let mut i = 0;
-    while i < visited.len() {
-        visited[i] = false;
-        i += 1;
-    }
+    visited.fill(false);
 }
 
-// Visits a node: a new one is marked and put at the end of the queue. Returns the queue's new end. A number that is no node, a visited node
-// and a full queue change nothing.
-pub fn visit(visited: &mut [bool], queue: &mut [u16], tail: usize, v: usize) -> usize
-    ensures { after visited.new queue.new result ≡ visit_of visited.old queue.old tail v }
-{
-    if visited.len() <= v {
-        return tail;
-    }
-    if visited[v] {
-        return tail;
-    }
-    if queue.len() <= tail {
-        return tail;
-    }
-    if MAX_NODE < v {
-        return tail;
-    }
-    visited[v] = true;
-    queue[tail] = v as u16;
-    tail + 1
+// A search: the set of visited nodes, and the queue, whose first `tail` entries are used.
+#[derive(Drop)]
+pub struct Traversal<'a> {
+    pub visited: &'a mut [bool],
+    pub queue: &'a mut [u16],
+    pub tail: usize,
 }
 
-// Marks a node that is to be followed at once. Whether it is new: a number that is no node and a visited node change nothing.
-pub fn enter(visited: &mut [bool], node: usize) -> bool
-    ensures { (result ≡ is_unvisited visited.old node) × (visited.new ≡ entering visited.old node) }
-{
-    if visited.len() <= node {
-        return false;
+impl<'a> Traversal<'a> {
+    // Whether a number is a node that is not visited yet.
+    #[tactic(auto, unfolding(crate::specs::code::Search::is_unvisited))]
+    fn is_unvisited(&self, v: usize) -> bool
+        ensures { result ≡ is_unvisited self.now.visited.now v }
+    {
+        v < self.visited.len() && !self.visited[v]
     }
-    if visited[node] {
-        return false;
+
+    // Visits a node: a new one is marked and put at the end of the queue. A number that is no node, a visited node and a full queue change nothing.
+    #[tactic(auto, using(crate::proofs::Search::unvisited_below), unfolding(crate::specs::code::Search::visit_of, crate::specs::code::Search::is_new, crate::specs::code::Search::is_unvisited))]
+    pub fn visit(&mut self, v: usize)
+        ensures visits { state self.new ≡ visit_of self.old.visited.now self.old.queue.now self.old.tail v }
+        ensures same_slices { SameSlices self.old self.new }
+    {
+        if self.is_unvisited(v) && self.tail < self.queue.len() && v <= MAX_NODE {
+            self.visited[v] = true;
+            self.queue[self.tail] = v as u16;
+            self.tail += 1;
+        }
     }
-    visited[node] = true;
-    true
+
+    // Marks a node that is to be followed at once. Whether it is new: a number that is no node and a visited node change nothing.
+    #[tactic(auto, using(crate::proofs::Search::unvisited_below))]
+    pub fn enter(&mut self, node: usize) -> bool
+        ensures new { result ≡ is_unvisited self.old.visited.now node }
+        ensures enters { state self.new ≡ after (entering self.old.visited.now node) self.old.queue.now self.old.tail }
+        ensures same_slices { SameSlices self.old self.new }
+    {
+        let is_new = self.is_unvisited(node);
+        if is_new {
+            self.visited[node] = true;
+        }
+        is_new
+    }
 }

@@ -43,19 +43,11 @@ const COUNTS: [Counts; format::PAST_OPCODES as usize] = [
     Counts { takes: 1, gives: 1 }, // 20 Freeze
 ];
 
-// How many rows there are from one to before another.
-fn between(from: u32, to: u32) -> u16
-    requires { to < 65536 }
-    ensures { result ≡ to - from }
-{
-    if from <= to { (to - from) as u16 } else { 0 }
-}
-
 // How many fields a type, and how many parameters and results a procedure has.
 pub fn fields_of(y: TypeEntry) -> u16
     ensures { result ≡ y.end - (y.row + 1) }
 {
-    between((y.row as u32) + 1, y.end as u32)
+    y.end.saturating_sub(y.row).saturating_sub(1)
 }
 
 pub fn parameters_of(table: &[u8], p: ProcedureEntry) -> u16
@@ -63,17 +55,13 @@ pub fn parameters_of(table: &[u8], p: ProcedureEntry) -> u16
 {
     let end = declarations::parameters_end(table, p);
     let start = (p.row as usize) + 1;
-    if start <= end {
-        (end - start) as u16
-    } else {
-        0
-    }
+    end.saturating_sub(start) as u16
 }
 
 pub fn results_of(p: ProcedureEntry) -> u16
     ensures { result ≡ p.code - p.results }
 {
-    between(p.results as u32, p.code as u32)
+    p.code.saturating_sub(p.results)
 }
 
 // How many operands an instruction takes and pushes.
@@ -86,8 +74,7 @@ pub fn counts_of(
 ) -> Counts
     ensures { (result.takes ≡ length (effect_of table.now own named callee row number).takes) × (result.gives ≡ length (effect_of table.now own named callee row number).gives) }
 {
-    let opcode = row.a;
-    match opcode {
+    match row.a {
         format::PACK => Counts {
             takes: fields_of(named),
             gives: 1,
@@ -105,6 +92,6 @@ pub fn counts_of(
             gives: 0,
         },
         format::PAST_OPCODES..=255 => Counts { takes: 0, gives: 0 },
-        _ => COUNTS[opcode as usize],
+        _ => COUNTS[row.a as usize],
     }
 }

@@ -1,4 +1,4 @@
--- What the search looks up of each row of a table, in arrays by row number.
+-- What the search looks up of each row of a table, by row number.
 use Rattle.std.specs.Prelude.{ℕ, zero, suc, ◌+◌, ◌-◌, ◌<◌, ◌≡◌, Bool, false, cond, ◌&&◌, ◌||◌, List, eqb, ltb, leb, length, get_or, set}
 use Rattle.laws.specs.Lists.{count}
 use Rattle.table.specs.declared.Row.{Row}
@@ -58,18 +58,14 @@ entry_for t ix above row = entry_by t above (procedure_in ix above) (procedure_i
 unfoldable pub entry_at : List ℕ → Index → ℕ → RowEntry
 entry_at t ix row = entry_for t ix (count (is_kind t procedure_kind) row) (row_at t row)
 
--- the arrays of the first n rows
-pub record Filled (t : List ℕ) (ix : Index) (takes gives base sends calls : List ℕ) (n : ℕ) : Type 0 where
-  pub takes_at : (r : ℕ) → r < n → get_or takes r 0 ≡ (entry_at t ix r).takes
-  pub gives_at : (r : ℕ) → r < n → get_or gives r 0 ≡ (entry_at t ix r).gives
-  pub base-at : (r : ℕ) → r < n → get_or base r 0 ≡ (entry_at t ix r).base
-  pub sends-at : (r : ℕ) → r < n → get_or sends r 0 ≡ (entry_at t ix r).sends
-  pub calls_at : (r : ℕ) → r < n → get_or calls r 0 ≡ (entry_at t ix r).calls
+-- the entries of the first n rows are these
+pub record Filled (t : List ℕ) (ix : Index) (rows : List RowEntry) (n : ℕ) : Type 0 where
+  pub entries-are : (r : ℕ) → r < n → get_or rows r no_entry ≡ entry_at t ix r
 
--- Call sites, from the array `calls`: the last of the first n rows that calls q, plus one; 0 for none
-unfoldable pub last_call : List ℕ → ℕ → ℕ → ℕ
-last_call calls q zero = 0
-last_call calls q (suc n) = cond (eqb (get_or calls n 0) (q + 1)) (suc n) (last_call calls q n)
+-- Call sites: the last of the first n rows that calls q, plus one; 0 for none
+unfoldable pub last_call : List RowEntry → ℕ → ℕ → ℕ
+last_call rows q zero = 0
+last_call rows q (suc n) = cond (eqb (get_or rows n no_entry).calls (q + 1)) (suc n) (last_call rows q n)
 
 -- the two arrays after row r, which calls this procedure, kept, is linked
 unfoldable pub is_link : List ℕ → ℕ → Bool
@@ -82,9 +78,9 @@ unfoldable pub before_after : List ℕ → List ℕ → ℕ → ℕ → List ℕ
 before_after last before called r = cond (is_link last called) (set before r (get_or last (called - 1) 0)) before
 
 -- for each procedure the last call site, and for each call site the one before it, of the first n rows
-pub record Linked (calls last before : List ℕ) (n : ℕ) : Type 0 where
-  pub lasts : (q : ℕ) → q < length last → get_or last q 0 ≡ last_call calls q n
-  pub befores : (r q : ℕ) → r < n → q < length last → get_or calls r 0 ≡ q + 1 → get_or before r 0 ≡ last_call calls q r
+pub record Linked (rows : List RowEntry) (last before : List ℕ) (n : ℕ) : Type 0 where
+  pub lasts : (q : ℕ) → q < length last → get_or last q 0 ≡ last_call rows q n
+  pub befores : (r q : ℕ) → r < n → q < length last → (get_or rows r no_entry).calls ≡ q + 1 → get_or before r 0 ≡ last_call rows q r
 
 -- whether some one of the first n instructions rows makes a mark of itself, reached or not
 unfoldable pub makes_at : List ℕ → Index → ℕ → Bool

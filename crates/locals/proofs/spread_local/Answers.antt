@@ -2,111 +2,93 @@ use Prim.Native.Nat.{ℕ, ◌*◌, ◌≤◌}
 use mathlib.Core.Path.{◌≡◌, refl, sym, ap, ◌∙◌}
 use mathlib.Core.Bool.{false}
 use native.Mathlib.Omega.{arith}
+use borrow.Author.Rules.{rules}
 use lib.ListN.{length, replicate}
 use Rattle.reach.proofs.Laws.{count-le}
 use Rattle.table.specs.Rows.{row_count}
-use Rattle.locals.proofs.Laws.{Waiting, Followed, start-below, after-below, local-start, local-on, local_still, local_rests, local-tail, local-queued, local-next, local-found}
+use Rattle.locals.proofs.Laws.{Waiting, start-below, after-below, local-start, local-sized, local-still, local-rests, local-tail, local-room, local-queued, local-next, local-found}
 use Rattle.locals.proofs.spread_local.Goals as goal
 
-pub loop-y-init : goal.loop-y-init
-loop-y-init c =
+pub loop-next-init : goal.loop-next-init
+loop-next-init c =
     let a = c.args in
     let e = c.start_status-x.ensures in (
-      rw e (local-start a.code.now a.params a.l a.queue.now _ (omega (arith, c.requires)) (omega (arith, c.requires)) (omega (arith, c.requires)) (c.clear.ensures ∙ ap (λ (k : ℕ). replicate k false) c.requires.0) (rw e at c.enter.ensures.1)),
+      rw e (local-start a.code.now a.params a.l a.queue.now _ (omega (arith, c.requires)) (omega (arith, c.requires)) (omega (arith, c.requires)) (c.clear.ensures ∙ ap (λ (k : ℕ). replicate k false) c.requires.0) (rw e at c.enter.ensures.enters)),
       omega (arith, c.requires),
       rw e (start-below a.params a.l),
-      refl,
-      refl,
+      (refl, refl),
     )
 
 pub overflow_cast-y : goal.overflow_cast-y
-overflow_cast-y c = omega (arith, c.status_after-y.ensures, after-below c.row_at-row.result c.args.l c.loop-y.x c.loop-y.invariant.2)
+overflow_cast-y c = omega (arith, c.status_after-y.ensures, after-below c.row_at-row.result c.args.l c.loop-next.x c.loop-next.invariant.2)
 
 pub go_on-on-requires : goal.go_on-on-requires
-go_on-on-requires c = (c.loop-y.invariant.3 ∙ c.enter.auto.visited ∙ c.clear.auto.visited ∙ c.requires.0, omega (arith, c.requires), omega (arith, c.loop-y.invariant.1, c.requires))
+go_on-on-requires c = let l = c.loop-next in (local-sized _ _ _ l.i l.x l.invariant.0, omega (arith, c.requires), omega (arith, l.invariant.1, c.requires))
 
-pub loop-y-smaller-then-on : goal.loop-y-smaller-then-on
-loop-y-smaller-then-on c =
-    let size : length c.go_on-on.new.visited ≡ 2 * row_count c.args.code.now = c.go_on-on.auto.visited ∙ c.loop-y.invariant.3 ∙ c.enter.auto.visited ∙ c.clear.auto.visited ∙ c.requires.0 in
-    omega (arith, (c.go_on-on.ensures.new c.if-on.true).0, count-le c.go_on-on.new.visited, size)
+-- the search goes on to a node that is new
+pub loop-next-smaller-in-Some : goal.loop-next-smaller-in-Some
+loop-next-smaller-in-Some c =
+    let l = c.loop-next in
+    let on = c.in-Some.ensures.on in
+    omega (arith, (on.new _ refl).0, count-le c.go_on-on.new.search.visited.now, on.sized.0, local-sized _ _ _ l.i l.x l.invariant.0)
 
-pub loop-y-preserved-then-on : goal.loop-y-preserved-then-on
-loop-y-preserved-then-on c =
-    let gone : Followed c.args.code.now c.args.params c.args.l c.go_on-on.new.visited c.go_on-on.new.queue c.loop-y.head c.status_after-y.result c.go_on-on.result = let inv = c.loop-y.invariant in
-    local-on _ _ _ inv.0 (omega (arith, c.requires)) inv.1 inv.2 c.row_at-row.ensures c.status_after-y.ensures c.go_on-on.ensures in
-    let room : length c.go_on-on.new.queue ≡ length c.args.queue.now = c.go_on-on.auto.queue ∙ c.loop-y.invariant.4 in
-    let new = c.go_on-on.ensures.new c.if-on.true in (
-      local_still _ _ _ _ _ gone c.if-on.true,
-      new.1,
-      rw c.status_after-y.ensures (after-below c.row_at-row.result _ _ c.loop-y.invariant.2),
-      c.go_on-on.auto.visited ∙ c.loop-y.invariant.3,
-      room,
+pub loop-next-preserved-in-Some : goal.loop-next-preserved-in-Some
+loop-next-preserved-in-Some c =
+    let l = c.loop-next in
+    let inv = l.invariant in
+    let on = c.in-Some.ensures.on in
+    let same = c.go_on-on.ensures.same_slices in (
+      local-still _ _ _ inv.0 (omega (arith, c.requires)) inv.1 inv.2 c.row_at-row.ensures c.status_after-y.ensures on,
+      (on.new _ refl).1,
+      rw c.status_after-y.ensures (after-below c.row_at-row.result _ _ inv.2),
+      (same.0 ∙ inv.3.0, same.1 ∙ inv.3.1),
     )
 
-pub shape_of-visited-then-tail-head : goal.shape_of-visited-then-tail-head
-shape_of-visited-then-tail-head c =
-    let size : length c.go_on-on.new.visited ≡ 2 * row_count c.args.code.now = c.go_on-on.auto.visited ∙ c.loop-y.invariant.3 ∙ c.enter.auto.visited ∙ c.clear.auto.visited ∙ c.requires.0 in
-    size ∙ sym c.requires.0
+-- it takes a node from the queue, or ends
+pub returns-then-search-head : goal.returns-then-search-head
+returns-then-search-head c =
+    let l = c.loop-next in
+    let inv = l.invariant in
+    let found = local-found _ _ _ (local-rests _ _ _ inv.0 (omega (arith, c.requires)) inv.1 inv.2 c.row_at-row.ensures c.status_after-y.ensures c.in_default.ensures.on) c.if-search-head.true in
+    search (rules, found)
 
-pub shape_of-queue-then-tail-head : goal.shape_of-queue-then-tail-head
-shape_of-queue-then-tail-head c =
-    let room : length c.go_on-on.new.queue ≡ length c.args.queue.now = c.go_on-on.auto.queue ∙ c.loop-y.invariant.4 in
-    room
+pub offset_bounds-search-head : goal.offset_bounds-search-head
+offset_bounds-search-head c =
+    let l = c.loop-next in
+    let inv = l.invariant in
+    let state = local-rests _ _ _ inv.0 (omega (arith, c.requires)) inv.1 inv.2 c.row_at-row.ensures c.status_after-y.ensures c.in_default.ensures.on in
+    omega (arith, c.if-search-head.false, local-tail _ _ _ state, c.requires)
 
-pub returns-then-tail-head : goal.returns-then-tail-head
-returns-then-tail-head c =
-    let gone : Followed c.args.code.now c.args.params c.args.l c.go_on-on.new.visited c.go_on-on.new.queue c.loop-y.head c.status_after-y.result c.go_on-on.result = let inv = c.loop-y.invariant in
-    local-on _ _ _ inv.0 (omega (arith, c.requires)) inv.1 inv.2 c.row_at-row.ensures c.status_after-y.ensures c.go_on-on.ensures in
-    let rests : c.go_on-on.result.going ≡ false → Waiting c.args.code.now c.args.params c.args.l c.go_on-on.new.visited c.go_on-on.new.queue c.loop-y.head c.go_on-on.result.tail = λ e. local_rests _ _ _ _ _ gone e in
-    local-found _ _ _ (rests c.if-on.false) c.if-tail-head.true
-
-pub offset_bounds-queue-head : goal.offset_bounds-queue-head
-offset_bounds-queue-head c =
-    let gone : Followed c.args.code.now c.args.params c.args.l c.go_on-on.new.visited c.go_on-on.new.queue c.loop-y.head c.status_after-y.result c.go_on-on.result = let inv = c.loop-y.invariant in
-    local-on _ _ _ inv.0 (omega (arith, c.requires)) inv.1 inv.2 c.row_at-row.ensures c.status_after-y.ensures c.go_on-on.ensures in
-    let rests : c.go_on-on.result.going ≡ false → Waiting c.args.code.now c.args.params c.args.l c.go_on-on.new.visited c.go_on-on.new.queue c.loop-y.head c.go_on-on.result.tail = λ e. local_rests _ _ _ _ _ gone e in
-    let bounded : c.go_on-on.result.going ≡ false → c.go_on-on.result.tail ≤ 2 * row_count c.args.code.now = λ e. local-tail _ _ _ (rests e) in
-    omega (arith, bounded c.if-on.false, c.requires)
-
-pub bounds-queue-head : goal.bounds-queue-head
-bounds-queue-head c =
-    let gone : Followed c.args.code.now c.args.params c.args.l c.go_on-on.new.visited c.go_on-on.new.queue c.loop-y.head c.status_after-y.result c.go_on-on.result = let inv = c.loop-y.invariant in
-    local-on _ _ _ inv.0 (omega (arith, c.requires)) inv.1 inv.2 c.row_at-row.ensures c.status_after-y.ensures c.go_on-on.ensures in
-    let rests : c.go_on-on.result.going ≡ false → Waiting c.args.code.now c.args.params c.args.l c.go_on-on.new.visited c.go_on-on.new.queue c.loop-y.head c.go_on-on.result.tail = λ e. local_rests _ _ _ _ _ gone e in
-    let bounded : c.go_on-on.result.going ≡ false → c.go_on-on.result.tail ≤ 2 * row_count c.args.code.now = λ e. local-tail _ _ _ (rests e) in
-    let room : length c.go_on-on.new.queue ≡ length c.args.queue.now = c.go_on-on.auto.queue ∙ c.loop-y.invariant.4 in
-    omega (arith, bounded c.if-on.false, room, c.requires)
-
-pub overflow_cast-u : goal.overflow_cast-u
-overflow_cast-u c = omega (arith, c.slice_known-in-loop-y-3-1.given c.loop-y.head)
+pub bounds-search-head : goal.bounds-search-head
+bounds-search-head c =
+    let l = c.loop-next in
+    let inv = l.invariant in
+    let state = local-rests _ _ _ inv.0 (omega (arith, c.requires)) inv.1 inv.2 c.row_at-row.ensures c.status_after-y.ensures c.in_default.ensures.on in
+    omega (arith, c.if-search-head.false, local-tail _ _ _ state, local-room _ _ _ state)
 
 pub overflow_add-head : goal.overflow_add-head
 overflow_add-head c =
-    let gone : Followed c.args.code.now c.args.params c.args.l c.go_on-on.new.visited c.go_on-on.new.queue c.loop-y.head c.status_after-y.result c.go_on-on.result = let inv = c.loop-y.invariant in
-    local-on _ _ _ inv.0 (omega (arith, c.requires)) inv.1 inv.2 c.row_at-row.ensures c.status_after-y.ensures c.go_on-on.ensures in
-    let rests : c.go_on-on.result.going ≡ false → Waiting c.args.code.now c.args.params c.args.l c.go_on-on.new.visited c.go_on-on.new.queue c.loop-y.head c.go_on-on.result.tail = λ e. local_rests _ _ _ _ _ gone e in
-    let bounded : c.go_on-on.result.going ≡ false → c.go_on-on.result.tail ≤ 2 * row_count c.args.code.now = λ e. local-tail _ _ _ (rests e) in
-    omega (arith, bounded c.if-on.false, c.requires)
+    let l = c.loop-next in
+    let inv = l.invariant in
+    let state = local-rests _ _ _ inv.0 (omega (arith, c.requires)) inv.1 inv.2 c.row_at-row.ensures c.status_after-y.ensures c.in_default.ensures.on in
+    omega (arith, c.if-search-head.false, local-tail _ _ _ state, c.requires)
 
-pub loop-y-smaller : goal.loop-y-smaller
-loop-y-smaller c =
-    let gone : Followed c.args.code.now c.args.params c.args.l c.go_on-on.new.visited c.go_on-on.new.queue c.loop-y.head c.status_after-y.result c.go_on-on.result = let inv = c.loop-y.invariant in
-    local-on _ _ _ inv.0 (omega (arith, c.requires)) inv.1 inv.2 c.row_at-row.ensures c.status_after-y.ensures c.go_on-on.ensures in
-    let rests : c.go_on-on.result.going ≡ false → Waiting c.args.code.now c.args.params c.args.l c.go_on-on.new.visited c.go_on-on.new.queue c.loop-y.head c.go_on-on.result.tail = λ e. local_rests _ _ _ _ _ gone e in
-    let bounded : c.go_on-on.result.going ≡ false → c.go_on-on.result.tail ≤ 2 * row_count c.args.code.now = λ e. local-tail _ _ _ (rests e) in
-    omega (arith, bounded c.if-on.false, c.if-tail-head.false, c.go_on-on.ensures.grown)
+pub loop-next-smaller : goal.loop-next-smaller
+loop-next-smaller c =
+    let l = c.loop-next in
+    let inv = l.invariant in
+    let on = c.in_default.ensures.on in
+    let state = local-rests _ _ _ inv.0 (omega (arith, c.requires)) inv.1 inv.2 c.row_at-row.ensures c.status_after-y.ensures on in
+    omega (arith, c.if-search-head.false, local-tail _ _ _ state, on.grown)
 
-pub loop-y-preserved : goal.loop-y-preserved
-loop-y-preserved c =
-    let gone : Followed c.args.code.now c.args.params c.args.l c.go_on-on.new.visited c.go_on-on.new.queue c.loop-y.head c.status_after-y.result c.go_on-on.result = let inv = c.loop-y.invariant in
-    local-on _ _ _ inv.0 (omega (arith, c.requires)) inv.1 inv.2 c.row_at-row.ensures c.status_after-y.ensures c.go_on-on.ensures in
-    let rests : c.go_on-on.result.going ≡ false → Waiting c.args.code.now c.args.params c.args.l c.go_on-on.new.visited c.go_on-on.new.queue c.loop-y.head c.go_on-on.result.tail = λ e. local_rests _ _ _ _ _ gone e in
-    let room : length c.go_on-on.new.queue ≡ length c.args.queue.now = c.go_on-on.auto.queue ∙ c.loop-y.invariant.4 in
-    let state = rests c.if-on.false in
-    let h = c.if-tail-head.false in (
-      local-next _ _ _ state (omega arith),
-      omega (arith, local-queued _ _ _ state (omega arith)),
+pub loop-next-preserved : goal.loop-next-preserved
+loop-next-preserved c =
+    let l = c.loop-next in
+    let inv = l.invariant in
+    let same = c.go_on-on.ensures.same_slices in
+    let state = local-rests _ _ _ inv.0 (omega (arith, c.requires)) inv.1 inv.2 c.row_at-row.ensures c.status_after-y.ensures c.in_default.ensures.on in (
+      local-next _ _ _ state c.if-search-head.false,
+      omega (arith, local-queued _ _ _ state c.if-search-head.false),
       omega arith,
-      c.go_on-on.auto.visited ∙ c.loop-y.invariant.3,
-      room,
+      (same.0 ∙ inv.3.0, same.1 ∙ inv.3.1),
     )

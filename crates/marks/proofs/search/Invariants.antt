@@ -1,16 +1,15 @@
--- The invariant: from where the search begins, whatever it begins from, it comes to stand so, with no node followed.
-use Prim.Native.Nat.{ℕ, ◌-◌, ◌*◌}
-use mathlib.Core.Path.{◌≡◌}
-use mathlib.Core.List.{List}
-use lib.ListN.{length}
+-- The invariant: the search from where marks are made stands so, with no node followed.
+use Prim.Native.Nat.{◌-◌, ◌*◌}
+use Rattle.reach.specs.code.Search.{SameSlices}
 use Rattle.table.specs.Rows.{row_count}
-use Rattle.marks.specs.code.Search.{edges}
+use Rattle.helpers.specs.Rounds.{up_to}
+use Rattle.marks.specs.code.Search.{edges, made_at}
 use Rattle.marks.proofs.Laws.{Stands}
 use Rattle.marks.proofs.search.Given as goal
 
 abbrev pub invariant-loop-head : goal.invariant-loop-head
-invariant-loop-head l = ((vs : List ℕ) → Stands (edges l.table l.takes l.gives l.base l.sends l.before l.last l.arrives) (32 * row_count l.table) vs l.initial.visited l.initial.queue 0 l.initial.tail → Stands (edges l.table l.takes l.gives l.base l.sends l.before l.last l.arrives) (32 * row_count l.table) vs l.visited l.queue l.head l.tail)
-    × (length l.visited ≡ length l.initial.visited) × (length l.queue ≡ length l.initial.queue)
+invariant-loop-head l = Stands (edges l.table l.entries l.before l.last l.arrives) (32 * row_count l.table) (up_to (made_at l.table l.fn.index l.entries l.arrives) (row_count l.table)) l.search.visited.now l.search.queue.now l.head l.search.tail
+    × SameSlices l.initial.search l.search
 
 abbrev pub decreases-loop-head : goal.decreases-loop-head
 decreases-loop-head l = 32 * row_count l.table - l.head

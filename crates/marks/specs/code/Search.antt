@@ -8,7 +8,8 @@ use Rattle.table.specs.Format.{procedure_kind, instruction_kind, op_mv_loc, op_c
 use Rattle.table.specs.Rows.{row_at, is_kind}
 use Rattle.flow.specs.Places.{nodes_of}
 use Rattle.helpers.specs.code.Chains.{chain, along}
-use Rattle.entries.specs.code.Entries.{makes_at}
+use Rattle.entries.specs.declared.RowEntry.{RowEntry}
+use Rattle.entries.specs.code.Entries.{no_entry, makes_at}
 
 abbrev pub per_row : ℕ
 per_row = 32
@@ -24,12 +25,12 @@ next_rows row at base =
 -- Arrivals: which rows walks arrive at.
 
 -- the rows after a row
-unfoldable pub rows_after : List ℕ → List ℕ → ℕ → List ℕ
-rows_after t base r = cond (is_kind t instruction_kind r) (nodes_of 1 (next_rows (row_at t r) r (get_or base r 0)) (0 ∷ [])) []
+unfoldable pub rows_after : List ℕ → List RowEntry → ℕ → List ℕ
+rows_after t rows r = cond (is_kind t instruction_kind r) (nodes_of 1 (next_rows (row_at t r) r (get_or rows r no_entry).base) (0 ∷ [])) []
 
 -- the first instruction's row, at a procedure's own
-unfoldable pub first_at : List ℕ → List ℕ → ℕ → List ℕ
-first_at t base r = cond (is_kind t procedure_kind r) (get_or base r 0 ∷ []) []
+unfoldable pub first_at : List ℕ → List RowEntry → ℕ → List ℕ
+first_at t rows r = cond (is_kind t procedure_kind r) ((get_or rows r no_entry).base ∷ []) []
 
 -- Marks.
 
@@ -53,12 +54,15 @@ sent_to row takes sends x =
     ((per_row * (sends - 1) + cond (eqb row.a op_call) 0 16 + (takes - 1 - (x - 16))) ∷ [])
     []
 
--- the nodes after place x of the instruction at row `at`
+-- the nodes after place x of the instruction at row `at`: where the mark goes to, where its copy does, and what it is sent to
+abbrev pub gone : Row → ℕ → ℕ → ℕ → ℕ → ℕ → List ℕ
+gone row at base takes gives x = cond (ltb (goes_to row takes gives x) per_row) (nodes_of per_row (next_rows row at base) (goes_to row takes gives x ∷ [])) []
+
+abbrev pub copied : Row → ℕ → ℕ → ℕ → List ℕ
+copied row at base x = cond (copies row x) (nodes_of per_row (next_rows row at base) (16 ∷ [])) []
+
 unfoldable pub code_edges : Row → ℕ → ℕ → ℕ → ℕ → ℕ → ℕ → List ℕ
-code_edges row at base takes gives sends x =
-    cond (ltb (goes_to row takes gives x) per_row) (nodes_of per_row (next_rows row at base) (goes_to row takes gives x ∷ [])) []
-    ++ cond (copies row x) (nodes_of per_row (next_rows row at base) (16 ∷ [])) []
-    ++ sent_to row takes sends x
+code_edges row at base takes gives sends x = gone row at base takes gives x ++ copied row at base x ++ sent_to row takes sends x
 
 -- what result r of a procedure with so many results is pushed as, at a Call that walks arrive at
 unfoldable pub pushed_at : List Bool → ℕ → ℕ → ℕ → List ℕ
@@ -76,16 +80,16 @@ head_edges before arrives params results base start x =
     (result_edges before arrives results start (x - 16))
 
 -- the nodes after a node, from a table and the arrays
-module _ (t takes gives base sends before last : List ℕ) (arrives : List Bool) where
+module _ (t : List ℕ) (rows : List RowEntry) (before last : List ℕ) (arrives : List Bool) where
   unfoldable pub place_edges : ℕ → ℕ → List ℕ
-  place_edges r x =
-      cond (is_kind t procedure_kind r) (head_edges before arrives (get_or takes r 0) (get_or gives r 0) (get_or base r 0) (get_or last (get_or sends r 0) 0) x)
-      (cond (is_kind t instruction_kind r) (code_edges (row_at t r) r (get_or base r 0) (get_or takes r 0) (get_or gives r 0) (get_or sends r 0) x)
+  place_edges r x = let e = get_or rows r no_entry in
+      cond (is_kind t procedure_kind r) (head_edges before arrives e.takes e.gives e.base (get_or last e.sends 0) x)
+      (cond (is_kind t instruction_kind r) (code_edges (row_at t r) r e.base e.takes e.gives e.sends x)
       [])
 
   unfoldable pub edges : ℕ → List ℕ
   edges u = place_edges (u / per_row) (u % per_row)
 
 -- where marks are made, at a row
-unfoldable pub made_at : List ℕ → Index → List ℕ → List Bool → ℕ → List ℕ
-made_at t ix base arrives r = cond (get_or arrives r false && makes_at t ix r) (nodes_of per_row (next_rows (row_at t r) r (get_or base r 0)) (16 ∷ [])) []
+unfoldable pub made_at : List ℕ → Index → List RowEntry → List Bool → ℕ → List ℕ
+made_at t ix rows arrives r = cond (get_or arrives r false && makes_at t ix r) (nodes_of per_row (next_rows (row_at t r) r (get_or rows r no_entry).base) (16 ∷ [])) []

@@ -3,6 +3,7 @@
 -- or is `at`: the node that is followed. Where `at` is no node, none is followed.
 use Rattle.std.specs.Prelude.{ℕ, ◌+◌, ◌<◌, ◌≤◌, ◌≡◌, List, [], ◌∷◌, Bool, true, false, cond, not, ◌&&◌, ltb, leb, length, get_or, set}
 use Rattle.reach.specs.Reach.{Mem, At, Reached, count_true}
+use Rattle.reach.specs.declared.Traversal.{Traversal}
 
 -- where a visited node u stands
 pub data Standing (succs : ℕ → List ℕ) (seen : List Bool) (queue : List ℕ) (head tail at u : ℕ) : Type 0 where
@@ -39,6 +40,13 @@ pub record Visit : Type 0 where
 -- the three put together
 abbrev pub after : List Bool → List ℕ → ℕ → Visit
 after seen queue tail = record { visited = seen; queue = queue; tail = tail }
+
+-- those of a search, and that it is over the same two slices as another
+abbrev pub state : Traversal → Visit
+state s = after s.visited.now s.queue.now s.tail
+
+abbrev pub SameSlices : Traversal → Traversal → Type 0
+SameSlices s r = (r.visited.ghost_name ≡ s.visited.ghost_name) × (r.queue.ghost_name ≡ s.queue.ghost_name)
 
 -- whether v is a node, not visited yet, and the queue has room for it
 unfoldable pub is_new : List Bool → List ℕ → ℕ → ℕ → Bool
