@@ -79,7 +79,7 @@ module _ (code : List ℕ) (params l : ℕ) where
   Waiting seen queue head tail = Searched graph first seen queue head tail (length first)
 
   -- and one that went on so, with status y
-  abbrev pub Followed : List Bool → List ℕ → ℕ → ℕ → Going → Type 0
+  abbrev Followed : List Bool → List ℕ → ℕ → ℕ → Going → Type 0
   Followed seen queue head y r = Searched graph first seen queue head r.tail (cond r.going (2 * r.at + y) (length first))
 
   status_below : (i x y : ℕ) → x < 2 → Mem y (local_moves (bare_step code) l i x) → y < 2
@@ -116,7 +116,7 @@ module _ (code : List ℕ) (params l : ℕ) where
 
   module _ {seen : List Bool} {queue : List ℕ} {head tail i x : ℕ} (state : Spreading seen queue head tail i x) where
     -- the search goes on from the node that is followed
-    pub local-on :
+    local-on :
         {row : Row} {y : ℕ} {more : List Bool} {longer : List ℕ} {r : Going}
         → row_count code ≤ 256
         → i < row_count code
@@ -127,13 +127,14 @@ module _ (code : List ℕ) (params l : ℕ) where
         → Followed more longer head y r
     local-on few h k e q on = on.search graph first head (2 * i + x) (nodes_after i x k e q) inside length-first (omega (arith, length-first)) (omega (arith, length-first)) state
 
-  -- it follows a node, or nothing
-  module _ {seen : List Bool} {queue : List ℕ} {head : ℕ} (y : ℕ) (r : Going) (state : Followed seen queue head y r) where
-    pub local_still : r.going ≡ true → Spreading seen queue head r.tail r.at y
-    local_still e = rw e at state
+    -- it follows a node, or nothing
+    module _ {row : Row} {y : ℕ} {more : List Bool} {longer : List ℕ} {r : Going} (few : row_count code ≤ 256) (h : i < row_count code) (k : x < 2) (e : row ≡ row_at code i) (q : y ≡ status_after (row_step row) l x)
+        (on : GoesOn 2 (row_count code) row i y seen queue tail more longer r) where
+      pub local_still : r.going ≡ true → Spreading more longer head r.tail r.at y
+      local_still z = rw z at (local-on few h k e q on)
 
-    pub local_rests : r.going ≡ false → Waiting seen queue head r.tail
-    local_rests e = rw e at state
+      pub local_waits : r.going ≡ false → Waiting more longer head r.tail
+      local_waits z = rw z at (local-on few h k e q on)
 
   module _ {seen : List Bool} {queue : List ℕ} {head tail : ℕ} (state : Waiting seen queue head tail) where
     pub local-tail : tail ≤ 2 * row_count code

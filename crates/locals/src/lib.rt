@@ -73,9 +73,14 @@ fn start_status(params: usize, l: usize) -> usize
     if l < params { FULL } else { EMPTY }
 }
 
+// Room for the nodes of the locals of a procedure within the limits, and for the branches that wait.
+type Nodes = [bool; 8192];
+
+type Queue = [u16; 512];
+
 // The nodes of local l, each visited once: a walk is followed while its nodes are new, and the other branches wait in the queue.
-fn spread_local(visited: &mut [bool], queue: &mut [u16], code: &[u8], params: usize, l: usize)
-    requires { (length visited.old ≡ 2 * row_count code.now) × (512 ≤ length queue.old) × (0 < row_count code.now) × (row_count code.now ≤ 256) }
+fn spread_local(visited: &mut [bool], queue: &mut Queue, code: &[u8], params: usize, l: usize)
+    requires { (length visited.old ≡ 2 * row_count code.now) × (0 < row_count code.now) × (row_count code.now ≤ 256) }
     ensures { visited.new ≡ nodes_of code.now params l }
 {
     let n = code.len() / format::ROW_BYTES;
@@ -107,8 +112,8 @@ fn spread_local(visited: &mut [bool], queue: &mut [u16], code: &[u8], params: us
 }
 
 // The nodes of every local, one after the other.
-fn spread_locals(nodes: &mut [bool], queue: &mut [u16], code: &[u8], params: usize, count: usize)
-    requires { (2 * row_count code.now * count ≤ length nodes.old) × (512 ≤ length queue.old) × (0 < row_count code.now) × (row_count code.now ≤ 256) × (count ≤ 16) }
+fn spread_locals(nodes: &mut Nodes, queue: &mut Queue, code: &[u8], params: usize, count: usize)
+    requires { (0 < row_count code.now) × (row_count code.now ≤ 256) × (count ≤ 16) }
     ensures { (l : ℕ) → l < count → take (2 * row_count code.now) (drop (2 * row_count code.now * l) nodes.new) ≡ nodes_of code.now params l }
 {
     let n = code.len() / format::ROW_BYTES;
@@ -266,11 +271,11 @@ fn judge_code(
 fn judge_procedure(
     table: &[u8],
     code: &[u8],
-    nodes: &mut [bool],
-    queue: &mut [u16],
+    nodes: &mut Nodes,
+    queue: &mut Queue,
     own: ProcedureEntry,
 ) -> Result<usize, Refusal>
-    requires { (code.now ≡ code_of table.now own) × (8192 ≤ length nodes.old) × (512 ≤ length queue.old) }
+    requires { code.now ≡ code_of table.now own }
     ensures { verdict_of result ≡ code_verdict (limited table.now own (local_fault table.now own)) own.code (row_count code.now) }
 {
     let n = code.len() / format::ROW_BYTES;

@@ -8,7 +8,12 @@ use Rattle.locals.proofs.Laws.{Spreading}
 use Rattle.locals.proofs.spread_local.Given as goal
 
 abbrev pub invariant-loop-y : goal.invariant-loop-y
-invariant-loop-y l = Spreading l.code l.params l.l l.visited l.queue l.head l.tail l.i l.x × (l.i < row_count l.code) × (l.x < 2) × (length l.visited ≡ length l.initial.visited) × (length l.queue ≡ length l.initial.queue)
+invariant-loop-y l = record {
+  search : Spreading l.code l.params l.l l.visited l.queue l.head l.tail l.i l.x;
+  inside : l.i < row_count l.code;
+  status : l.x < 2;
+  size : length l.visited ≡ length l.initial.visited;
+}
 
 -- each time round a node is entered, or one is taken from the queue
 abbrev pub decreases-loop-y : goal.decreases-loop-y
