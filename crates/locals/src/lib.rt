@@ -128,7 +128,7 @@ fn spread_locals(nodes: &mut Nodes, queue: &mut Queue, code: &[u8], params: usiz
 #[derive(Clone, Copy)]
 struct Arrival<'a> {
     // The nodes of the locals one after the other, those of local l from 2 n l on.
-    nodes: &'a [bool],
+    nodes: &'a Nodes,
     n: usize,
     i: usize,
     // How many locals there are, and those that are records.
@@ -144,10 +144,7 @@ impl<'a> Arrival<'a> {
         requires { (l < 16) × (status < 2) }
         ensures { result ≡ get_or self.now.nodes.now (2 * self.now.n * l + (2 * self.now.i + status)) false }
     {
-        self.nodes
-            .get(2 * self.n * l + (2 * self.i + status))
-            .copied()
-            .unwrap_or(false)
+        self.nodes[2 * self.n * l + (2 * self.i + status)]
     }
 
     // The locals that are full on every walk.
@@ -243,7 +240,7 @@ fn parameter_count(table: &[u8], p: ProcedureEntry) -> usize
 // The instructions of a procedure, whose code is the part `code`.
 fn judge_code(
     code: &[u8],
-    nodes: &[bool],
+    nodes: &Nodes,
     own: ProcedureEntry,
     count: usize,
     records: LocalSet,
@@ -290,6 +287,7 @@ fn judge_procedure(
 }
 
 // The locals pass over a table with a given index, of the procedures within the limits: those of any table that the rows pass accepts.
+#[tactic(auto, using(declarations::proofs::Laws::pass_start), unfolding(crate::specs::code::Within::locals_within, declarations::specs::Program::code_of))]
 pub fn locals_with(table: &[u8], index: Index) -> Result<usize, Refusal>
     ensures { verdict_of result ≡ locals_within index table.now }
 {

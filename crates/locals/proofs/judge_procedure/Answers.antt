@@ -1,9 +1,8 @@
 use mathlib.Core.Path.{sym, ◌∙◌}
-use Rattle.locals.proofs.Laws.{nodes_fit, procedure_verdict, within}
+use Rattle.locals.proofs.Laws.{procedure_verdict, within}
 use Rattle.laws.specs.First.{first_fault}
 use Rattle.declarations.specs.Program.{code_verdict}
 use Rattle.declarations.proofs.Laws.{limited_in, limited_out}
-use Rattle.table.specs.Rows.{row_count}
 use native.Mathlib.Omega.{arith}
 use Rattle.locals.proofs.judge_procedure.Goals as goal
 use Rattle.locals.proofs.judge_procedure.Goals.{then-n-eq0-via-then-n-eq0, then-n-eq0-via-else-n-eq0+then-over_limits}
@@ -16,9 +15,7 @@ returns-then-n-eq0 c = elim c.then-n-eq0.branch [
 ]
 
 pub spread_locals-requires : goal.spread_locals-requires
-spread_locals-requires c =
-    let small = within _ _ c.requires c.over_limits.ensures c.if-over_limits.false in
-    omega (arith, small, c.local_count-count.ensures, nodes_fit (row_count c.args.code.now) c.local_count-count.result (omega (arith, small)) (omega (arith, small, c.local_count-count.ensures)))
+spread_locals-requires c = omega (arith, within _ _ c.requires c.over_limits.ensures c.if-over_limits.false, c.local_count-count.ensures)
 
 pub record_locals-records-requires : goal.record_locals-records-requires
 record_locals-records-requires c = omega (arith, within _ _ c.requires c.over_limits.ensures c.if-over_limits.false, c.local_count-count.ensures)

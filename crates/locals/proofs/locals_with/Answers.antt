@@ -3,17 +3,9 @@ use Rattle.locals.proofs.Laws.{procedures_done, procedure_accepted, procedure_re
 use Rattle.declarations.proofs.Laws.{pass_start}
 use Rattle.declarations.specs.Program.{code_of}
 use Rattle.std.proofs.lemmas.Result.{err_from_is_err_and}
-use mathlib.Core.Path.{refl, sym, ◌∙◌}
+use mathlib.Core.Path.{sym, ◌∙◌}
 use native.Mathlib.Omega.{arith}
 use Rattle.locals.proofs.locals_with.Goals as goal
-
-pub loop-own-init : goal.loop-own-init
-unfolding locals_within
-loop-own-init c = pass_start _ _ _
-
-pub judge_procedure-requires : goal.judge_procedure-requires
-unfolding code_of
-judge_procedure-requires c = c.part-code.ensures.result_value
 
 pub returns-in_err-judge_procedure : goal.returns-in_err-judge_procedure
 unfolding code_of
