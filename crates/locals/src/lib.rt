@@ -74,9 +74,14 @@ fn start_status(params: usize, l: usize) -> usize
     if l < params { FULL } else { EMPTY }
 }
 
+// Room for the nodes of the locals of a procedure within the limits, and for the branches that wait.
+type Nodes = [bool; 8192];
+
+type Queue = [u16; 512];
+
 // The nodes of local l, each visited once: a walk is followed while its nodes are new, and the other branches wait in the queue.
-fn spread_local(visited: &mut [bool], queue: &mut [u16], code: &[u8], params: usize, l: usize)
-    requires { (length visited.old ≡ 2 * row_count code.now) × (512 ≤ length queue.old) × (0 < row_count code.now) × (row_count code.now ≤ 256) }
+fn spread_local(visited: &mut [bool], queue: &mut Queue, code: &[u8], params: usize, l: usize)
+    requires { (length visited.old ≡ 2 * row_count code.now) × (0 < row_count code.now) × (row_count code.now ≤ 256) }
     ensures { visited.new ≡ nodes_of code.now params l }
 {
     let n = code.len() / format::ROW_BYTES;
@@ -111,8 +116,8 @@ fn spread_local(visited: &mut [bool], queue: &mut [u16], code: &[u8], params: us
 }
 
 // The nodes of every local, one after the other.
-fn spread_locals(nodes: &mut [bool], queue: &mut [u16], code: &[u8], params: usize, count: usize)
-    requires { (2 * row_count code.now * count ≤ length nodes.old) × (512 ≤ length queue.old) × (0 < row_count code.now) × (row_count code.now ≤ 256) × (count ≤ 16) }
+fn spread_locals(nodes: &mut Nodes, queue: &mut Queue, code: &[u8], params: usize, count: usize)
+    requires { (0 < row_count code.now) × (row_count code.now ≤ 256) × (count ≤ 16) }
     ensures { (l : ℕ) → l < count → take (2 * row_count code.now) (drop (2 * row_count code.now * l) nodes.new) ≡ nodes_of code.now params l }
 {
     let n = code.len() / format::ROW_BYTES;
@@ -127,7 +132,7 @@ fn spread_locals(nodes: &mut [bool], queue: &mut [u16], code: &[u8], params: usi
 #[derive(Clone, Copy)]
 struct Arrival<'a> {
     // The nodes of the locals one after the other, those of local l from 2 n l on.
-    nodes: &'a [bool],
+    nodes: &'a Nodes,
     n: usize,
     i: usize,
     // How many locals there are, and those that are records.
@@ -143,10 +148,7 @@ impl<'a> Arrival<'a> {
         requires { (l < 16) × (status < 2) }
         ensures { result ≡ get_or self.now.nodes.now (2 * self.now.n * l + (2 * self.now.i + status)) false }
     {
-        self.nodes
-            .get(2 * self.n * l + (2 * self.i + status))
-            .copied()
-            .unwrap_or(false)
+        self.nodes[2 * self.n * l + (2 * self.i + status)]
     }
 
     // The locals that are full on every walk.
@@ -242,7 +244,7 @@ fn parameter_count(table: &[u8], p: ProcedureEntry) -> usize
 // The instructions of a procedure, whose code is the part `code`.
 fn judge_code(
     code: &[u8],
-    nodes: &[bool],
+    nodes: &Nodes,
     own: ProcedureEntry,
     count: usize,
     records: LocalSet,
@@ -270,11 +272,11 @@ fn judge_code(
 fn judge_procedure(
     table: &[u8],
     code: &[u8],
-    nodes: &mut [bool],
-    queue: &mut [u16],
+    nodes: &mut Nodes,
+    queue: &mut Queue,
     own: ProcedureEntry,
 ) -> Result<usize, Refusal>
-    requires { (code.now ≡ code_of table.now own) × (8192 ≤ length nodes.old) × (512 ≤ length queue.old) }
+    requires { code.now ≡ code_of table.now own }
     ensures { verdict_of result ≡ code_verdict (limited table.now own (local_fault table.now own)) own.code (row_count code.now) }
 {
     let n = code.len() / format::ROW_BYTES;
@@ -289,6 +291,7 @@ fn judge_procedure(
 }
 
 // The locals pass over a table with a given index, of the procedures within the limits: those of any table that the rows pass accepts.
+#[tactic(auto, using(declarations::proofs::Laws::pass_start), unfolding(crate::specs::code::Within::locals_within, declarations::specs::Program::code_of))]
 pub fn locals_with(table: &[u8], index: Index) -> Result<usize, Refusal>
     ensures { verdict_of result ≡ locals_within index table.now }
 {

@@ -3,31 +3,19 @@ use Rattle.locals.proofs.Laws.{procedures_done, procedure_accepted, procedure_re
 use Rattle.declarations.proofs.Laws.{pass_start}
 use Rattle.declarations.specs.Program.{code_of}
 use Rattle.std.proofs.lemmas.Result.{err_from_is_err_and}
-use mathlib.Core.Path.{refl, sym, ◌∙◌}
+use mathlib.Core.Path.{sym, ◌∙◌}
 use native.Mathlib.Omega.{arith}
 use Rattle.locals.proofs.locals_with.Goals as goal
-
-pub loop-own-init : goal.loop-own-init
-unfolding locals_within
-loop-own-init c = (pass_start _ _ _, refl, refl)
-
-pub judge_procedure-requires : goal.judge_procedure-requires
-unfolding code_of
-judge_procedure-requires c = (c.part-code.ensures.result_value, omega arith, omega arith)
 
 pub returns-in_err-judge_procedure : goal.returns-in_err-judge_procedure
 unfolding code_of
 returns-in_err-judge_procedure c =
     let p = err_from_is_err_and c.from_residual.result c.from_residual.ensures.1 in
-    rw (p.1, p.2) (sym (c.loop-own.invariant.0 ∙ procedure_refused _ _ _ c.min-count.ensures (omega arith) _ c.loop-own-test.true c.part-code.ensures.result_value c.in_err-judge_procedure.ensures))
+    rw (p.1, p.2) (sym (c.loop-own.invariant ∙ procedure_refused _ _ _ c.min-count.ensures (omega arith) _ c.loop-own-test.true c.part-code.ensures.result_value c.in_err-judge_procedure.ensures))
 
 pub loop-own-preserved : goal.loop-own-preserved
 unfolding code_of
-loop-own-preserved c = (
-  c.loop-own.invariant.0 ∙ procedure_accepted _ _ _ c.min-count.ensures (omega arith) _ c.loop-own-test.true c.part-code.ensures.result_value c.in_ok-judge_procedure.ensures,
-  c.judge_procedure.auto.nodes ∙ c.loop-own.invariant.1,
-  c.judge_procedure.auto.queue ∙ c.loop-own.invariant.2,
-)
+loop-own-preserved c = c.loop-own.invariant ∙ procedure_accepted _ _ _ c.min-count.ensures (omega arith) _ c.loop-own-test.true c.part-code.ensures.result_value c.in_ok-judge_procedure.ensures
 
 pub returns : goal.returns
-returns c = sym (c.loop-own.invariant.0 ∙ procedures_done _ _ _ c.min-count.ensures (omega arith) _ c.loop-own-test.false)
+returns c = sym (c.loop-own.invariant ∙ procedures_done _ _ _ c.min-count.ensures (omega arith) _ c.loop-own-test.false)
