@@ -1,5 +1,4 @@
 -- The parts of the line, one after the other.
-use Rattle.std.proofs.Common.{◌≡◌}
 use Rattle.semantics.specs.Ascii.{ascii}
 use Rattle.text.proofs.Placing.{puts_more, puts_same}
 use Rattle.text.proofs.Lines.{stop_line}
