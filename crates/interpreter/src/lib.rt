@@ -216,7 +216,7 @@ pub fn call(
 {
     let s = before.state;
     let row = table::row_at(list, i);
-    let callee = calls::procedure_in(index, row.b as usize);
+    let callee = declarations::procedure_in(&index, row.b as usize);
     let count = frame::control::within(declarations::local_count(callee));
     keep_changed(saved, cells, s, before.same);
     state::empty_cells(cells, 16, count as u16);
