@@ -138,6 +138,13 @@ impl Above {
     }
 
     // What stands above the next row.
+    #[tactic(auto, unfolding(
+        crate::specs::Rows::below_row,
+        crate::specs::Rows::count_below,
+        crate::specs::Rows::owned,
+        crate::specs::Rows::count_of,
+        laws::specs::Lists::member
+    ))]
     fn below(mut self, row: Row) -> Self
         requires { count_of self row.kind < 65535 }
         ensures { result ≡ below_row self row }
