@@ -189,6 +189,7 @@ fn judge_procedure(
 }
 
 // The operands pass over a table with a given index.
+#[tactic(auto, using(declarations::proofs::Laws::pass_start), unfolding(crate::specs::Operands::operands_with, declarations::specs::Program::code_of))]
 pub fn operands_with(table: &[u8], index: Index) -> Result<usize, Refusal>
     ensures { verdict_of result ≡ operands_with index table.now }
 {
