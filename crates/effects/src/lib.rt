@@ -142,7 +142,7 @@ impl Stack {
 }
 
 // What each instruction does.
-#[tactic(auto, unfolding(crate::specs::Effects::applied, crate::specs::Kinds::taken_all, crate::specs::Kinds::pushed_all, declarations::specs::Program::field_kinds, declarations::specs::Program::parameter_kinds, declarations::specs::Program::result_kinds))]
+#[tactic(auto, unfolding(crate::specs::Effects::applied, crate::specs::Kinds::taken_all, crate::specs::Kinds::pushed_all, declarations::specs::Program::is_reference, declarations::specs::Program::field_kinds, declarations::specs::Program::parameter_kinds, declarations::specs::Program::result_kinds))]
 impl Stack {
     // Pop: a number or a reference.
     fn pop(self, kinds: &[u32; 16]) -> Self
