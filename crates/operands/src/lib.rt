@@ -38,6 +38,7 @@ fn is_foreign(
 }
 
 // Marks each instruction that some instruction of the code jumps to, beside those that are marked already.
+#[tactic(auto, using(crate::proofs::Laws::marking))]
 fn mark_targets(code: &[u8], marks: &mut [bool])
     ensures { marks.new ≡ target_marks code.now marks.old (row_count code.now) }
 {
