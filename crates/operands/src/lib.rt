@@ -38,6 +38,7 @@ fn is_foreign(
 }
 
 // Marks each instruction that some instruction of the code jumps to, beside those that are marked already.
+#[tactic(auto, using(crate::proofs::Laws::marking))]
 fn mark_targets(code: &[u8], marks: &mut [bool])
     ensures { marks.new ≡ target_marks code.now marks.old (row_count code.now) }
 {
@@ -174,6 +175,7 @@ fn judge_procedure(
 }
 
 // The operands pass over a table with a given index.
+#[tactic(auto, using(declarations::proofs::Laws::pass_start), unfolding(crate::specs::Operands::operands_with, declarations::specs::Program::code_of))]
 pub fn operands_with(table: &[u8], index: Index) -> Result<usize, Refusal>
     ensures { verdict_of result ≡ operands_with index table.now }
 {
