@@ -13,7 +13,7 @@ use Rattle.laws.specs.Lists.{member, count, nth, entries, tabulate}
 use Rattle.laws.proofs.Lists.{count-zero, count_yes, count_no, entries_at, entry_of-at, entry_of_hit, length-entries, length-tabulate, get_d_tabulate}
 use Rattle.laws.proofs.Tests.{and_both}
 use Rattle.table.specs.declared.Row.{Row}
-use Rattle.table.specs.declared.Verdict.TheVariants.{Accepted}
+use Rattle.table.specs.Verdicts.{Accepted}
 use Rattle.table.specs.declared.index.TypeEntry.{TypeEntry}
 use Rattle.table.specs.Format.{module_kind, type_kind, field_kind, op_borrow_fld, op_call}
 use Rattle.table.specs.Rows.{row_count, row_at, blank, kind_at, is_kind}

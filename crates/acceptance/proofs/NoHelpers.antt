@@ -11,7 +11,7 @@ use Rattle.table.specs.Index.{index_of}
 use Rattle.table.specs.Rows.{row_count}
 use Rattle.table.specs.declared.Row.{Row}
 use Rattle.table.specs.declared.index.TypeEntry.{TypeEntry}
-use Rattle.table.specs.declared.Verdict.TheVariants.{Accepted}
+use Rattle.table.specs.Verdicts.{Accepted}
 use Rattle.declarations.specs.Program.{number_ref, code_of, local_count, parameter_count}
 use Rattle.flow.specs.Steps.{nexts}
 use Rattle.flow.specs.Walks.{Slot, Walk, entry}

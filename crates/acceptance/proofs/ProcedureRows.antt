@@ -11,7 +11,7 @@ use lib.ListN.{drop}
 use lib.Seq.{take-add, drop-drop}
 use Rattle.laws.specs.Lists.{find}
 use Rattle.laws.proofs.Lists.{find-within, find-before, find_hit, nth-count}
-use Rattle.table.specs.declared.Verdict.TheVariants.{Accepted}
+use Rattle.table.specs.Verdicts.{Accepted}
 use Rattle.table.specs.Format.{module_kind, procedure_kind, instruction_kind}
 use Rattle.table.specs.Rows.{row_count, row_at, kind_at, is_kind}
 use Rattle.table.specs.Index.{index_of, procedure_at, results_start, code_start, code_end}

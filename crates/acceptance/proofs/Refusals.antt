@@ -8,7 +8,7 @@ use mathlib.Core.Logic.{◌↔◌, ◌⊎◌, inl, inr, ⊎_elim}
 use native.Mathlib.Omega.{arith}
 use Rattle.laws.specs.Lists.{member}
 use Rattle.laws.proofs.Lists.{disjoint, in_first, in_second, one_of_two}
-use Rattle.table.specs.declared.Verdict.TheVariants.{Accepted, Refused}
+use Rattle.table.specs.Verdicts.{Accepted, Refused}
 use Rattle.table.specs.Rows.{row_count}
 use Rattle.table.specs.Index.{index_of}
 use Rattle.table.specs.Refusals.{dirty_byte, empty_local, lost_record, mark_given, mark_returned, row_refusals, local_refusals, leak_refusals}

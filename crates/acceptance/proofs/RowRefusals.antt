@@ -6,7 +6,7 @@ use mathlib.Core.Logic.{◌↔◌, ◌⊎◌, inl, inr}
 use native.Mathlib.Decide.{dec_lt, ℕ_discrete}
 use native.Mathlib.Omega.{arith}
 use Rattle.laws.proofs.First.{clean_all}
-use Rattle.table.specs.declared.Verdict.TheVariants.{Accepted, Refused}
+use Rattle.table.specs.Verdicts.{Accepted, Refused}
 use Rattle.table.specs.Rows.{row_count}
 use Rattle.declarations.proofs.Passes.{FirstRow, over_first}
 use Rattle.rows.specs.Rows.{rows_of, fault_at}

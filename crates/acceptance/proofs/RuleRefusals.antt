@@ -11,12 +11,10 @@ use borrow.Author.Tests.{eqb-true, eq-eqb, not-true}
 use lib.Dec.{eqb}
 use Rattle.laws.specs.Lists.{member, count, every}
 use Rattle.laws.proofs.Tests.{and_both, test_not}
-use Rattle.table.specs.declared.Verdict.{Verdict}
-use Rattle.table.specs.declared.Verdict.TheVariants.{Accepted, Refused}
+use Rattle.table.specs.Verdicts.{Verdict, Accepted, Refused, and_then}
 use Rattle.table.specs.Format.{module_kind, procedure_kind, op_call}
 use Rattle.table.specs.Refusals.{bad_rules, unruled_pair, forbidden_call, rule_refusals}
 use Rattle.table.specs.Rows.{row_count, row_at, is_kind}
-use Rattle.table.specs.Verdicts.{and_then}
 use Rattle.table.specs.Index.{index_of, owner_at}
 use Rattle.rows.specs.declared.Above.{Above}
 use Rattle.rows.specs.Rows.{above_at, below_row, limits, count_of, owned}

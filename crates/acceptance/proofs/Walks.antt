@@ -5,7 +5,7 @@ use mathlib.Core.Bool.{Bool, true, false}
 use mathlib.Core.List.{List}
 use lib.ListN.{length, get_or}
 use Rattle.laws.proofs.Tests.{test_fails}
-use Rattle.table.specs.declared.Verdict.TheVariants.{Accepted}
+use Rattle.table.specs.Verdicts.{Accepted}
 use Rattle.table.specs.Rows.{row_count}
 use Rattle.table.specs.Index.{index_of}
 use Rattle.declarations.specs.Program.{code_of}

@@ -5,15 +5,14 @@ use mathlib.Core.Bool.{Bool, true, false, cond, not, ◌&&◌, ◌||◌}
 use mathlib.Core.List.{List, [], ◌∷◌}
 use native.Mathlib.Nat.{add-zero}
 use native.Mathlib.Omega.{arith}
-use borrow.Author.Tests.{ne_eqb}
 use lib.Dec.{eqb, leb}
 use lib.ListN.{length, get_or}
+use Rattle.std.specs.List.{list_all, range_with_len}
 use Rattle.table.specs.declared.Row.{Row}
 use Rattle.table.specs.declared.index.Index.{Index}
 use Rattle.table.specs.declared.index.ProcedureEntry.{ProcedureEntry}
-use Rattle.table.specs.Rows.{row_at, is_kind}
-use Rattle.declarations.specs.Program.{row_kind, kinds_of, procedure_in, parameter_kinds, result_kinds}
-use Rattle.effects.proofs.Laws.{kinds-none, kinds-first}
+use Rattle.table.specs.Rows.{row_count, row_at, is_kind}
+use Rattle.declarations.specs.Program.{row_kind, kinds_from, kinds_of, procedure_in, parameter_kinds, result_kinds}
 use Rattle.semantics.specs.Calls.{call_row, argument_row, arguments, all_numbers, no_such_procedure, not_numbers, wrong_count, bad_budget, bad_call, call, calls_from}
 
 -- A call's arguments.
@@ -66,28 +65,28 @@ module _ (l : List ℕ) (i n : ℕ) where
   unfolding calls_from
   calls-end h = let s : n - i ≡ 0 = omega arith in rw s
 
--- Rows that declare numbers only: a row that does, one that does not, and no more rows.
-module _ (t : List ℕ) (i to : ℕ) where
-  pub numbers_more : i < to → row_kind (row_at t i) ≡ 0 → all_numbers (kinds_of t i to) ≡ all_numbers (kinds_of t (i + 1) to)
-  unfolding all_numbers
-  numbers_more h e = rw (kinds-first t i to h, e)
+-- Rows that declare numbers only, one after the other
+numbers_range : (t : List ℕ) (i n : ℕ) → list_all (λ (i : ℕ). eqb (row_kind (row_at t i)) 0) (range_with_len i n) ≡ all_numbers (kinds_from t i n)
+unfolding all_numbers kinds_from
+numbers_range t i zero = refl
+numbers_range t i (suc n) = rw (numbers_range t (i + 1) n)
 
-  pub numbers-not : i < to → (row_kind (row_at t i) ≡ 0 → ⊥) → all_numbers (kinds_of t i to) ≡ false
-  unfolding all_numbers
-  numbers-not h e = rw (kinds-first t i to h, ne_eqb _ _ e)
+pub numbers_from : (t : List ℕ) (from to : ℕ) → list_all (λ (i : ℕ). eqb (row_kind (row_at t i)) 0) (range_with_len from (to - from)) ≡ all_numbers (kinds_of t from to)
+unfolding kinds_of
+numbers_from t from to = numbers_range t from (to - from)
 
-  pub numbers-end : to ≤ i → all_numbers (kinds_of t i to) ≡ true
-  unfolding all_numbers
-  numbers-end h = rw (kinds-none t i to h)
+-- the call at row i of the list l judged by its procedure's entry and its number of arguments
+module _ (t : List ℕ) (ix : Index) (l : List ℕ) (i : ℕ) where
+  abbrev given : List ℕ
+  given = arguments l (i + 1) (row_count l - (i + 1))
 
--- a call judged by its procedure's entry and its number of arguments
-pub bad_call-is : (t : List ℕ) (ix : Index) (row : Row) (args : List ℕ) {p : ProcedureEntry} {count : ℕ} {r : Bool} → p ≡ procedure_in ix row.b → count ≡ length args
-    → r
-    ≡ (leb ix.procedures row.b
-    || not (eqb (row_at t p.row).a 1)
-    || not (all_numbers (parameter_kinds t p) && all_numbers (result_kinds t p))
-    || not (eqb count (length (parameter_kinds t p)))
-    || bad_budget row.c)
-    → bad_call t ix row args ≡ r
-unfolding bad_call no_such_procedure not_numbers wrong_count
-bad_call-is t ix row args e q h = sym (rw (e, q) at h)
+  pub bad_call-is : (row : Row) {p : ProcedureEntry} {count : ℕ} {r : Bool} → p ≡ procedure_in ix row.b → count ≡ length given
+      → r
+      ≡ (leb ix.procedures row.b
+      || not (eqb (row_at t p.row).a 1)
+      || not (all_numbers (parameter_kinds t p) && all_numbers (result_kinds t p))
+      || not (eqb count (length (parameter_kinds t p)))
+      || bad_budget row.c)
+      → bad_call t ix row given ≡ r
+  unfolding bad_call no_such_procedure not_numbers wrong_count
+  bad_call-is row e q h = sym (rw (e, q) at h)

@@ -14,13 +14,11 @@ use Rattle.laws.specs.Lists.{hits, count, nth}
 use Rattle.laws.proofs.First.{clean_all}
 use Rattle.laws.proofs.Lists.{get_d_snoc_old, get_d_snoc_new, entries_at, entry_of-at}
 use Rattle.table.specs.declared.Row.{Row}
-use Rattle.table.specs.declared.Verdict.{Verdict}
-use Rattle.table.specs.declared.Verdict.TheVariants.{Accepted, Refused}
+use Rattle.table.specs.Verdicts.{Verdict, Accepted, Refused, and_then}
 use Rattle.table.specs.declared.index.Index.{Index}
 use Rattle.table.specs.declared.index.ProcedureEntry.{ProcedureEntry}
 use Rattle.table.specs.Format.{procedure_kind}
 use Rattle.table.specs.Rows.{row_at, row_count, is_kind}
-use Rattle.table.specs.Verdicts.{and_then}
 use Rattle.table.specs.Index.{no_procedure, index_of, indexed_rows, procedure_at}
 use Rattle.table.proofs.Laws.{procedure-within}
 use Rattle.declarations.specs.Program.{number, record_of, number_ref, record_ref, number_read, record_read, reference_to, frozen, is_parameter, code_of, code_verdict, over_procedures, code_pass, procedure_in, target_below, jumps_to, local_count}

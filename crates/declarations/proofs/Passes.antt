@@ -9,12 +9,10 @@ use native.Mathlib.Omega.{arith}
 use lib.ListN.{length, get_or, length-take}
 use lib.Seq.{get_or-take}
 use Rattle.laws.proofs.First.{Stops, all_fine, clean_if, clean_all, clean_or_stops}
-use Rattle.table.specs.declared.Verdict.{Verdict}
-use Rattle.table.specs.declared.Verdict.TheVariants.{Accepted, Refused}
+use Rattle.table.specs.Verdicts.{Verdict, Accepted, Refused, number_of, value_of, and_then, pass_over}
 use Rattle.table.specs.declared.index.Index.{Index}
 use Rattle.table.specs.declared.index.ProcedureEntry.{ProcedureEntry}
 use Rattle.table.specs.Rows.{row_count}
-use Rattle.table.specs.Verdicts.{number_of, value_of, and_then, pass_over}
 use Rattle.table.specs.Index.{no_procedure}
 use Rattle.declarations.specs.Program.{code_of, code_verdict, over_procedures, code_pass, procedure_in}
 use Rattle.declarations.proofs.Laws.{procedures_of}

@@ -4,15 +4,13 @@ use Rattle.std.specs.Prelude.{ℕ, zero, suc, ◌+◌, ◌-◌, ◌*◌, ◌%◌
 use Rattle.laws.specs.First.{first_fault}
 use Rattle.laws.specs.Lists.{find, tabulate}
 use Rattle.table.specs.declared.Row.{Row}
-use Rattle.table.specs.declared.Verdict.{Verdict}
-use Rattle.table.specs.declared.Verdict.TheVariants.{Accepted, Refused}
+use Rattle.table.specs.Verdicts.{Verdict, Accepted, Refused, and_then}
 use Rattle.table.specs.declared.index.Index.{Index}
 use Rattle.table.specs.declared.index.TypeEntry.{TypeEntry}
 use Rattle.table.specs.declared.index.ProcedureEntry.{ProcedureEntry}
 use Rattle.table.specs.Format.{number_sort, record_sort, number_reference, record_reference, number_reader, record_reader, op_branch, op_branch_cond, max_locals, max_instructions}
 use Rattle.table.specs.Flags
 use Rattle.table.specs.Rows.{row_at, row_count}
-use Rattle.table.specs.Verdicts.{and_then}
 use Rattle.table.specs.Index.{no_type, no_procedure}
 use Rattle.table.specs.Procedures.{part_of}
 

@@ -27,6 +27,7 @@ pub fn record_ref(y: u16) -> u32
 }
 
 // Whether a kind is a record.
+#[tactic(auto, unfolding(crate::specs::Program::is_record))]
 pub fn is_record(kind: u32) -> bool
     ensures { result ≡ is_record kind }
 {
@@ -34,6 +35,7 @@ pub fn is_record(kind: u32) -> bool
 }
 
 // Whether a kind is a reference.
+#[tactic(auto, unfolding(crate::specs::Program::is_reference))]
 pub fn is_reference(kind: u32) -> bool
     ensures { result ≡ is_reference kind }
 {
@@ -41,13 +43,11 @@ pub fn is_reference(kind: u32) -> bool
 }
 
 // Whether a kind is a reference that can be written through.
+#[tactic(auto, unfolding(crate::specs::Program::is_writable))]
 pub fn is_writable(kind: u32) -> bool
     ensures { result ≡ is_writable kind }
 {
-    if is_reference(kind) {
-        return kind % 8 <= 3;
-    }
-    false
+    is_reference(kind) && kind % 8 <= 3
 }
 
 // The kind that a field, local or result row declares.
@@ -62,32 +62,28 @@ pub fn parameters_end(table: &[u8], p: ProcedureEntry) -> usize
     ensures { result ≡ parameters_end table.now p }
 {
     let end = p.results as usize;
-    let mut i = (p.row as usize) + 1;
-    while i < end {
+    let start = (p.row as usize) + 1;
+    for i in start..end {
         if table::row_at(table, i).c != 1 {
             return i;
         }
-        i += 1;
     }
-    i
+    end.max(start)
 }
 
 // How many locals a procedure has.
+#[tactic(auto, unfolding(crate::specs::Program::local_count))]
 pub fn local_count(p: ProcedureEntry) -> usize
     ensures { result ≡ local_count p }
 {
-    let end = p.results as usize;
-    let start = (p.row as usize) + 1;
-    if start <= end { end - start } else { 0 }
+    (p.results as usize).saturating_sub((p.row as usize) + 1)
 }
 
 // Whether a procedure is over the limit on locals or on instructions.
+#[tactic(auto, unfolding(crate::specs::Program::code_of, crate::specs::code::Limits::over_limits))]
 pub fn over_limits(table: &[u8], p: ProcedureEntry) -> bool
     ensures { result ≡ over_limits table.now p }
 {
-    if format::MAX_LOCALS < local_count(p) {
-        return true;
-    }
     let code = table::procedures::part(table, p.code as usize, p.end as usize);
-    format::MAX_INSTRUCTIONS < code.len() / format::ROW_BYTES
+    format::MAX_LOCALS < local_count(p) || format::MAX_INSTRUCTIONS < code.len() / format::ROW_BYTES
 }

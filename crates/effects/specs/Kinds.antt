@@ -3,6 +3,7 @@ use Rattle.std.specs.Prelude.{ℕ, zero, suc, Bool, cond, not, ◌&&◌, List, [
 use Rattle.laws.specs.Lists.{none}
 use Rattle.table.specs.Format.{max_operands}
 use Rattle.table.specs.Refusals.{wrong_operand, too_many_operands, operands_left, foreign_name}
+use Rattle.table.specs.Verdicts.{fault_of}
 use Rattle.declarations.specs.Program.{number}
 use Rattle.effects.specs.declared.Stack.{Stack}
 
@@ -58,4 +59,4 @@ top_first ks (suc h) = get_or ks h 0 ∷ top_first ks h
 
 -- what lent kinds and a stack of the code stand for
 abbrev pub view : List ℕ → Stack → Kinds
-view ks s = kinds_or s.fault (top_first ks s.height)
+view ks s = kinds_or (fault_of s.fault) (top_first ks s.height)

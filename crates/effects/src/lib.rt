@@ -1,9 +1,9 @@
 // The kinds of the operands present in a procedure, and what each instruction does to them.
 #![tactic(auto)]
 
-ghost use Rattle.std.specs.Prelude.{◌≡◌, ℕ, ◌+◌, ◌/◌, ◌%◌, List, [], ◌∷◌, cond, not, ◌&&◌, eqb, length, get_or};
+ghost use Rattle.std.specs.Prelude.{◌≡◌, ℕ, ◌+◌, ◌/◌, ◌%◌, List, [], ◌∷◌, cond, not, get_or};
 ghost use Rattle.table.specs.Rows.{row_at};
-ghost use Rattle.table.specs.Format.{max_operands};
+ghost use Rattle.table.specs.Verdicts.{number_of_reason, fault_of};
 ghost use Rattle.declarations.specs.Program.{number, number_ref, is_record, is_reference, is_writable, record_of, record_ref, reference_to, frozen, row_kind, field_row, local_kind, kinds_of, field_kinds, parameter_kinds, result_kinds};
 ghost use Rattle.effects.specs.Kinds.{view, good, failed, taken, pushed, taken_all, pushed_all, top_of, fault_after};
 ghost use Rattle.effects.specs.Effects;
@@ -11,74 +11,58 @@ ghost use Rattle.effects.specs.Effects.{effect, effect_if, alike, applied, kinds
 
 use declarations::{NUMBER, NUMBER_REF};
 use table::index::{ProcedureEntry, TypeEntry};
-use table::{Row, format, refusals};
+use table::refusals::Reason;
+use table::{Row, format};
 
-// The number of the operands present, and the number of the first fault or 0. Their kinds lie in an array that is lent.
+// The number of the operands present, and the first fault. Their kinds lie in an array that is lent.
 #[derive(Clone, Copy)]
 pub struct Stack {
     pub height: u8,
-    pub fault: u8,
+    pub fault: Option<Reason>,
 }
 
 // Whether an operand of kind `top` can be read as a reference of kind k: it is one, or the read-only one to the same.
 fn reads(k: u32, top: u32) -> bool
     ensures { result ≡ Effects.reads k top }
 {
-    if top == k {
-        return true;
-    }
-    if top < 2 {
-        return false;
-    }
-    top - 2 == k
+    top == k || (2 <= top && top - 2 == k)
 }
-
-// The array's length. No code: a proof knows the length of an array by value, and of one behind a reference only through this call.
-fn sixteen(kinds: [u32; 16])
-    ensures { length kinds ≡ max_operands }
-{}
 
 // The kind at a height, 0 past the array.
 fn kind_at(kinds: &[u32; 16], at: u8) -> u32
     ensures { result ≡ get_or kinds.now at 0 }
 {
-    sixteen(*kinds);
-    if at < 16 { kinds[at as usize] } else { 0 }
+    kinds.get(at as usize).copied().unwrap_or(0)
 }
 
+#[tactic(auto, using(crate::proofs::Laws::views))]
 impl Stack {
     pub const EMPTY: Stack = Stack {
         height: 0,
-        fault: 0,
+        fault: None,
     };
 
-    // The stack with fault f, unless it has one.
-    fn fail(mut self, f: u8) -> Self
-        ensures { (ks : List ℕ) → view ks result ≡ failed f (view ks self) }
+    // The stack with this fault, unless it has one.
+    fn fail(self, reason: Reason) -> Self
+        ensures { (ks : List ℕ) → view ks result ≡ failed (number_of_reason reason) (view ks self) }
     {
-        if self.fault == 0 {
-            self.fault = f;
+        Stack {
+            fault: self.fault.or(Some(reason)),
+            ..self
         }
-        self
     }
 
     // Takes one operand of kind k.
     fn take(mut self, kinds: &[u32; 16], k: u32) -> Self
         ensures { view kinds.now result ≡ taken k (view kinds.now self) }
     {
-        if self.fault != 0 {
+        if self.fault.is_some() {
             return self;
         }
-        let h = self.height;
-        if h == 0 {
-            self.fault = refusals::WRONG_OPERAND;
-            return self;
+        if self.height == 0 || kind_at(kinds, self.height - 1) != k {
+            return self.fail(Reason::WrongOperand);
         }
-        if kind_at(kinds, h - 1) == k {
-            self.height = h - 1;
-            return self;
-        }
-        self.fault = refusals::WRONG_OPERAND;
+        self.height -= 1;
         self
     }
 
@@ -86,17 +70,15 @@ impl Stack {
     fn push(mut self, kinds: &mut [u32; 16], k: u32) -> Self
         ensures { view kinds.new result ≡ pushed k (view kinds.old self) }
     {
-        sixteen(*kinds);
-        if self.fault != 0 {
+        if self.fault.is_some() {
             return self;
         }
-        let h = self.height;
-        if 16 <= h {
-            self.fault = refusals::TOO_MANY_OPERANDS;
-            return self;
+        let at = self.height as usize;
+        if format::MAX_OPERANDS <= at {
+            return self.fail(Reason::TooManyOperands);
         }
-        kinds[h as usize] = k;
-        self.height = h + 1;
+        kinds[at] = k;
+        self.height += 1;
         self
     }
 
@@ -104,14 +86,10 @@ impl Stack {
     fn top(self, kinds: &[u32; 16]) -> u32
         ensures { result ≡ top_of (view kinds.now self) }
     {
-        if self.fault != 0 {
+        if self.fault.is_some() || self.height == 0 {
             return NUMBER;
         }
-        let h = self.height;
-        if h == 0 {
-            return NUMBER;
-        }
-        kind_at(kinds, h - 1)
+        kind_at(kinds, self.height - 1)
     }
 
     // Takes operands of the kinds that the rows from `from` to before `to` declare, the last first.
@@ -119,9 +97,7 @@ impl Stack {
         ensures { view kinds.now result ≡ taken_all (kinds_of table.now from to) (view kinds.now self) }
     {
         let mut stack = self;
-        let mut i = to;
-        while from < i {
-            i -= 1;
+        for i in (from..to).rev() {
             stack = stack.take(kinds, declarations::row_kind(table::row_at(table, i)));
         }
         stack
@@ -132,21 +108,46 @@ impl Stack {
         ensures { view kinds.new result ≡ pushed_all (kinds_of table.now from to) (view kinds.old self) }
     {
         let mut stack = self;
-        let mut i = from;
-        while i < to {
+        for i in from..to {
             stack = stack.push(kinds, declarations::row_kind(table::row_at(table, i)));
-            i += 1;
         }
         stack
     }
 
+    // The fault that a row earns with this stack after it.
+    pub fn fault_after(self, last: bool, other: bool) -> Option<Reason>
+        ensures { (ks : List ℕ) → fault_of result ≡ fault_after (view ks self) last other }
+    {
+        if self.fault.is_some() {
+            self.fault
+        } else if last && self.height != 0 {
+            Some(Reason::OperandsLeft)
+        } else if other {
+            Some(Reason::ForeignName)
+        } else {
+            None
+        }
+    }
+
+    // The stack of the next row: none at the start of a block.
+    #[tactic(auto, unfolding(crate::specs::Kinds::top_first))]
+    pub fn next(self, last: bool) -> Self
+        ensures { (ks : List ℕ) → view ks result ≡ cond last (good []) (view ks self) }
+    {
+        if last { Stack::EMPTY } else { self }
+    }
+}
+
+// What each instruction does.
+#[tactic(auto, unfolding(crate::specs::Effects::applied, crate::specs::Kinds::taken_all, crate::specs::Kinds::pushed_all, declarations::specs::Program::field_kinds, declarations::specs::Program::parameter_kinds, declarations::specs::Program::result_kinds))]
+impl Stack {
     // Pop: a number or a reference.
     fn pop(self, kinds: &[u32; 16]) -> Self
         ensures { view kinds.now result ≡ applied (effect_if (not (is_record (top_of (view kinds.now self)))) (top_of (view kinds.now self) ∷ []) []) (view kinds.now self) }
     {
         let top = self.top(kinds);
         if declarations::is_record(top) {
-            return self.fail(refusals::WRONG_OPERAND);
+            return self.fail(Reason::WrongOperand);
         }
         self.take(kinds, top)
     }
@@ -171,7 +172,7 @@ impl Stack {
     {
         let k = local_kind(table, own, b);
         if declarations::is_record(k) {
-            return self.fail(refusals::WRONG_OPERAND);
+            return self.fail(Reason::WrongOperand);
         }
         self.push(kinds, k)
     }
@@ -189,7 +190,7 @@ impl Stack {
     {
         let k = local_kind(table, own, b);
         if declarations::is_reference(k) {
-            return self.fail(refusals::WRONG_OPERAND);
+            return self.fail(Reason::WrongOperand);
         }
         self.push(kinds, k + 2)
     }
@@ -202,7 +203,7 @@ impl Stack {
         if reads(NUMBER_REF, top) {
             return self.take(kinds, top).push(kinds, NUMBER);
         }
-        self.fail(refusals::WRONG_OPERAND)
+        self.fail(Reason::WrongOperand)
     }
 
     // WriteRef: the reference is on top.
@@ -222,7 +223,7 @@ impl Stack {
                 .take(kinds, top)
                 .push(kinds, field_reference(table, named, b, top));
         }
-        self.fail(refusals::WRONG_OPERAND)
+        self.fail(Reason::WrongOperand)
     }
 
     // Pack: the fields.
@@ -312,7 +313,7 @@ impl Stack {
         if declarations::is_writable(top) {
             return self.take(kinds, top).push(kinds, top + 2);
         }
-        self.fail(refusals::WRONG_OPERAND)
+        self.fail(Reason::WrongOperand)
     }
 
     // One instruction in procedure `own`. `named` is the type that its operand names, `callee` the procedure.
@@ -351,39 +352,13 @@ impl Stack {
             format::BRANCH_COND => self.branch_cond(kinds),
             format::OP => self.op(kinds),
             format::FREEZE => self.freeze(kinds),
-            format::PAST_OPCODES..=255 => self.fail(refusals::WRONG_OPERAND),
+            format::PAST_OPCODES..=255 => self.fail(Reason::WrongOperand),
         }
-    }
-
-    // Whether operands are left after a block's last row.
-    fn is_left(self, last: bool) -> bool
-        ensures { result ≡ (last && not (eqb self.height 0)) }
-    {
-        if last { self.height != 0 } else { false }
-    }
-
-    // The number that a row earns with this stack after it.
-    pub fn fault_after(self, last: bool, other: bool) -> u8
-        ensures { (ks : List ℕ) → result ≡ fault_after (view ks self) last other }
-    {
-        if self.fault != 0 {
-            return self.fault;
-        }
-        if self.is_left(last) {
-            return refusals::OPERANDS_LEFT;
-        }
-        if other { refusals::FOREIGN_NAME } else { 0 }
-    }
-
-    // The stack of the next row: none at the start of a block.
-    pub fn next(self, last: bool) -> Self
-        ensures { (ks : List ℕ) → view ks result ≡ cond last (good []) (view ks self) }
-    {
-        if last { Stack::EMPTY } else { self }
     }
 }
 
 // The kind of local b of a procedure.
+#[tactic(auto, unfolding(declarations::specs::Program::local_kind))]
 fn local_kind(table: &[u8], p: ProcedureEntry, b: u16) -> u32
     ensures { result ≡ local_kind table.now p b }
 {
@@ -395,9 +370,10 @@ fn field_reference(table: &[u8], y: TypeEntry, b: u16, top: u32) -> u32
     ensures { result ≡ alike top (reference_to (row_kind (row_at table.now (field_row y (b % 8))))) }
 {
     let row = table::row_at(table, (y.row as usize) + 1 + ((b % 8) as usize));
-    let kind = 8 * (row.b as u32) + (row.a as u32) + 2;
+    let kind = declarations::row_kind(row) + 2;
     if declarations::is_writable(top) {
-        return kind;
+        kind
+    } else {
+        kind + 2
     }
-    kind + 2
 }

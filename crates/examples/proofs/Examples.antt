@@ -1,7 +1,7 @@
 -- The rules answer each example as it states, by computation: part by part, since the checker bounds what one theorem may compute.
 use mathlib.Core.Path.{◌≡◌, refl, ap, sym, ◌∙◌}
 use mathlib.Core.List.{List, [], ◌∷◌, ◌++◌, map, map-append}
-use Rattle.table.specs.declared.Verdict.{Verdict}
+use Rattle.table.specs.Verdicts.{Verdict}
 use Rattle.judging.specs.Judging.{judge_under}
 use Rattle.semantics.specs.Run.{run_of}
 use Rattle.samples.specs.Samples.{Sample, samples, given as stated, answered as judged_by}

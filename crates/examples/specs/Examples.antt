@@ -2,8 +2,7 @@
 -- meet every stop.
 use Rattle.std.specs.Prelude.{ℕ, List, [], ◌∷◌, ◌++◌, map, length, take, replicate}
 use Prim.Native.String.{String}
-use Rattle.table.specs.declared.Verdict.{Verdict}
-use Rattle.table.specs.declared.Verdict.TheVariants.{Accepted, Refused}
+use Rattle.table.specs.Verdicts.{Verdict, Accepted, Refused}
 use Rattle.semantics.specs.Ascii.{ascii}
 use Rattle.semantics.specs.Run.{Ran, min_text}
 use Rattle.samples.specs.Samples.{Sample, samples, given as stated, answered as judged_by}

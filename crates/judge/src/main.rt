@@ -4,11 +4,11 @@
 
 ghost use Rattle.std.specs.Prelude.{OnOk};
 ghost use Rattle.std.specs.Io.KnownBytes.{Appends};
-ghost use Rattle.judging.specs.Judging.{judge_under};
+ghost use Rattle.core.specs.Option.{option_copied};
+ghost use Rattle.judging.specs.code.Files.{judge_by};
 ghost use Rattle.printing.specs.Lines.{verdict_line};
 
 use anyhow::Context;
-use printing::Reading;
 use std::io;
 use std::io::Write;
 use std::rt::Files;
@@ -30,15 +30,15 @@ fn judge_table(rt: &(impl Files + Print), table: &[u8]) -> anyhow::Result<()> {
     let got = printing::read_if_there(rt, "rules.bin", &mut rules).context("rules.bin")?;
     let mut out = io::writer(rt);
     match got {
-        Reading::Bytes(k) => judge_under(&mut out, table, &rules[..k], 1),
-        Reading::Missing => judge_under(&mut out, table, &rules, 0),
+        Some(k) => judge_under(&mut out, table, Some(&rules[..k])),
+        None => judge_under(&mut out, table, None),
     }
     .context("standard output")
 }
 
 // Judges the table and prints the verdict.
-fn judge_under<W: Write>(out: &mut W, table: &[u8], rules: &[u8], has: u64) -> io::Result<()>
-    ensures { OnOk result (Appends (W.contents out.old) (W.contents out.new) (verdict_line (judge_under has rules.now table.now))) }
+fn judge_under<W: Write>(out: &mut W, table: &[u8], rules: Option<&[u8]>) -> io::Result<()>
+    ensures { OnOk result (Appends (W.contents out.old) (W.contents out.new) (verdict_line (judge_by (option_copied rules) table.now))) }
 {
-    printing::print_verdict(out, judging::judge_under(table, rules, has))
+    printing::print_verdict(out, judging::judge_under(table, rules))
 }

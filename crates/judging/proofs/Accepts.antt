@@ -5,12 +5,10 @@ use mathlib.Core.Bool.{Bool, true, false, not, ◌||◌}
 use mathlib.Core.List.{List, [], ◌∷◌}
 use lib.Dec.{eqb, ltb}
 use lib.ListN.{length}
-use Rattle.table.specs.declared.Verdict.{Verdict}
-use Rattle.table.specs.declared.Verdict.TheVariants.{Accepted}
+use Rattle.table.specs.Verdicts.{Verdict, Accepted, value_of}
 use Rattle.table.specs.declared.index.ProcedureEntry.{ProcedureEntry}
 use Rattle.table.specs.declared.index.Index.{Index}
 use Rattle.table.specs.Rows.{row_count}
-use Rattle.table.specs.Verdicts.{value_of}
 use Rattle.table.specs.Index.{index_of}
 use Rattle.rows.specs.Rows.{length_of, rows_of}
 use Rattle.declarations.specs.Program.{code_pass}

@@ -9,10 +9,8 @@ use Rattle.laws.specs.First.{first_fault, unless}
 use Rattle.laws.specs.Lists.{member}
 use Rattle.laws.proofs.Lists.{disjoint, not_in}
 use Rattle.table.specs.declared.Row.{Row}
-use Rattle.table.specs.declared.Verdict.{Verdict}
-use Rattle.table.specs.declared.Verdict.TheVariants.{Accepted, Refused}
+use Rattle.table.specs.Verdicts.{Verdict, Accepted, Refused, and_then}
 use Rattle.table.specs.Rows.{row_count, row_at}
-use Rattle.table.specs.Verdicts.{and_then}
 use Rattle.table.specs.Refusals.{wrong_value, wrong_guard, length_refusals}
 use Rattle.rows.specs.declared.Above.{Above}
 use Rattle.rows.specs.Rows.{length_of, rows_of, misplaced, too_many, unused_byte, bad_value, bad_guard, row_fault, fault_at, above_at, Faultless}

@@ -2,11 +2,9 @@
 use Prim.Native.Nat.{ℕ}
 use mathlib.Core.Path.{◌≡◌, refl, sym, ap, ◌∙◌}
 use mathlib.Core.List.{List, [], ◌∷◌}
-use Rattle.table.specs.declared.Verdict.{Verdict}
-use Rattle.table.specs.declared.Verdict.TheVariants.{Accepted, Refused}
+use Rattle.table.specs.Verdicts.{Verdict, Accepted, Refused, and_then}
 use Rattle.table.specs.declared.index.Index.{Index}
 use Rattle.table.specs.Rows.{row_count}
-use Rattle.table.specs.Verdicts.{and_then}
 use Rattle.table.specs.Index.{index_of}
 use Rattle.rows.specs.Rows.{length_of, rows_of, form_of}
 use Rattle.declarations.proofs.Passes.{refused-accepted, both_accept, over_rows}

@@ -10,15 +10,13 @@ use lib.ListN.{length}
 use Rattle.laws.specs.Lists.{member, none}
 use Rattle.laws.proofs.Lists.{disjoint, not_in, in_first, in_second}
 use Rattle.table.specs.declared.Row.{Row}
-use Rattle.table.specs.declared.Verdict.{Verdict}
-use Rattle.table.specs.declared.Verdict.TheVariants.{Accepted, Refused}
+use Rattle.table.specs.Verdicts.{Verdict, Accepted, Refused, and_then, value_of, pass_over}
 use Rattle.table.specs.declared.index.Index.{Index}
 use Rattle.table.specs.declared.index.TypeEntry.{TypeEntry}
 use Rattle.table.specs.declared.index.ProcedureEntry.{ProcedureEntry}
 use Rattle.table.specs.Format.{procedure_kind, max_operands, op_st_loc, op_call, op_ret}
 use Rattle.table.specs.Refusals.{bad_length, bad_place, over_limit, dirty_byte, wrong_value, wrong_guard, open_end, not_declared, wrong_operand, too_many_operands, operands_left, foreign_name, empty_local, lost_record, mark_given, mark_returned, length_refusals, row_refusals, name_refusals, operand_refusals, local_refusals, leak_refusals}
 use Rattle.table.specs.Rows.{row_count, row_at}
-use Rattle.table.specs.Verdicts.{and_then, value_of, pass_over}
 use Rattle.table.specs.Index.{index_of}
 use Rattle.rows.specs.declared.Above.{Above}
 use Rattle.rows.specs.Rows as rows

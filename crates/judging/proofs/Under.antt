@@ -8,12 +8,10 @@ use borrow.Author.Tests.{ne_eqb}
 use lib.Dec.{eqb}
 use Rattle.laws.specs.Lists.{member}
 use Rattle.laws.proofs.Lists.{disjoint}
-use Rattle.table.specs.declared.Verdict.{Verdict}
-use Rattle.table.specs.declared.Verdict.TheVariants.{Accepted, Refused}
+use Rattle.table.specs.Verdicts.{Verdict, Accepted, Refused, and_then, value_of, pass_over}
 use Rattle.table.specs.declared.index.Index.{Index}
 use Rattle.table.specs.Refusals.{bad_rules, length_refusals, row_refusals, rule_refusals}
 use Rattle.table.specs.Rows.{row_count}
-use Rattle.table.specs.Verdicts.{and_then, value_of, pass_over}
 use Rattle.table.specs.Index.{index_of}
 use Rattle.rows.specs.Rows.{length_of, rows_of}
 use Rattle.declarations.specs.Program.{code_pass}

@@ -10,12 +10,10 @@ use lib.ListN.{length, get_or, take, length-take}
 use lib.Seq.{get_or-take}
 use Rattle.laws.specs.First.{first_fault, unless}
 use Rattle.laws.proofs.Lists.{length-entries}
-use Rattle.table.specs.declared.Verdict.{Verdict}
-use Rattle.table.specs.declared.Verdict.TheVariants.{Accepted, Refused}
+use Rattle.table.specs.Verdicts.{Verdict, Accepted, Refused, and_then, value_of}
 use Rattle.table.specs.declared.index.ProcedureEntry.{ProcedureEntry}
 use Rattle.table.specs.Format.{procedure_kind}
 use Rattle.table.specs.Rows.{row_count, is_kind}
-use Rattle.table.specs.Verdicts.{and_then, value_of}
 use Rattle.table.specs.Index.{index_of, indexed_rows, procedure_at, no_procedure}
 use Rattle.rows.specs.Rows.{length_of, rows_of}
 use Rattle.declarations.specs.Program.{code_of, code_verdict, over_procedures, code_pass, procedure_in}

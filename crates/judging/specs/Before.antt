@@ -3,10 +3,8 @@
 use Rattle.std.specs.Prelude.{ℕ, cond, ◌||◌, List, [], ◌∷◌}
 use Rattle.laws.specs.Lists.{member}
 use Rattle.table.specs.declared.Row.{Row}
-use Rattle.table.specs.declared.Verdict.{Verdict}
-use Rattle.table.specs.declared.Verdict.TheVariants.{Accepted, Refused}
+use Rattle.table.specs.Verdicts.{Verdict, Accepted, Refused, pass_over}
 use Rattle.table.specs.Rows.{row_count, row_at}
-use Rattle.table.specs.Verdicts.{pass_over}
 use Rattle.table.specs.Refusals.{dirty_byte, wrong_value, wrong_guard}
 use Rattle.rows.specs.declared.Above.{Above}
 use Rattle.rows.specs.Rows.{length_of, misplaced, too_many, unused_byte, bad_value, bad_guard, above_at}

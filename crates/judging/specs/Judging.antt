@@ -1,9 +1,7 @@
 -- Judging a table: the passes in order (document 01, "Judging").
 use Rattle.std.specs.Prelude.{ℕ, ◌+◌, ◌*◌, ◌≡◌, List, [], ◌∷◌}
-use Rattle.table.specs.declared.Verdict.{Verdict}
-use Rattle.table.specs.declared.Verdict.TheVariants.{Accepted}
+use Rattle.table.specs.Verdicts.{Verdict, Accepted, and_then, number_of, value_of}
 use Rattle.table.specs.Rows.{row_count}
-use Rattle.table.specs.Verdicts.{and_then, number_of, value_of}
 use Rattle.rows.specs.Rows.{length_of, rows_of}
 use Rattle.names.specs.Names.{names_of}
 use Rattle.operands.specs.Operands.{operands_of}

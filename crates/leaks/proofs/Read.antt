@@ -10,12 +10,11 @@ use lib.Dec.{eqb}
 use lib.ListN.{length, get_or, replicate, length-take}
 use lib.Seq.{get_or-take}
 use Rattle.laws.proofs.First.{first-same}
-use Rattle.table.specs.declared.Verdict.TheVariants.{Accepted, Refused}
+use Rattle.table.specs.Verdicts.{Accepted, Refused, and_then}
 use Rattle.table.specs.declared.index.Index.{Index}
 use Rattle.table.specs.declared.index.ProcedureEntry.{ProcedureEntry}
 use Rattle.table.specs.Format.{op_call, op_ret}
 use Rattle.table.specs.Rows.{row_count, row_at}
-use Rattle.table.specs.Verdicts.{and_then}
 use Rattle.table.specs.Index.{index_of, no_procedure}
 use Rattle.declarations.specs.Program.{number, number_ref, procedure_in, code_of, code_verdict, over_procedures, code_pass}
 use Rattle.declarations.proofs.Laws.{procedures_of}

@@ -1,26 +1,31 @@
 -- Laws of the search for what walks leave in a local, and of the faults that follow from it.
-use Prim.Native.Nat.{ℕ, zero, suc, ◌+◌, ◌*◌, ◌/◌, ◌%◌, ◌<◌, ◌≤◌}
+use Prim.Native.Nat.{ℕ, zero, suc, ◌+◌, ◌*◌, ◌/◌, ◌%◌, ◌<◌, ◌≤◌, min}
 use mathlib.Core.Path.{◌≡◌, refl, sym, ap, ◌∙◌}
-use mathlib.Core.Bool.{Bool, true, false, cond, ◌&&◌, ◌||◌, or-true, and-false, false≢true}
+use mathlib.Core.Bool.{Bool, true, false, cond, ◌&&◌, ◌||◌, or-false, and-false, false≢true}
 use mathlib.Core.List.Memᴰ
 use mathlib.Core.List.{List, [], ◌∷◌}
-use native.Mathlib.Nat.{mul-le-mul}
-use native.Mathlib.Decide.{ℕ_discrete}
-use native.Mathlib.Numerals.{add-one}
+use native.Mathlib.Nat.{mul-le-mul, add-zero, zero-add}
+use native.Mathlib.Decide.{dec_lt}
 use native.Mathlib.Omega.{arith}
 use borrow.Author.Tests.{ltb-true, eqb-true}
 use lib.Dec.{eqb, ltb}
 use lib.ListN.{length, get_or, take, drop, replicate, length-replicate}
+use Rattle.std.specs.List.{list_any, range_with_len}
+use Rattle.std.proofs.lemmas.List.{take_all}
+use Rattle.laws.proofs.First.{first-same, from, whole, fine, faulty_with, done}
 use Rattle.std.specs.Prelude.{None, Some}
-use Rattle.laws.proofs.First.{first-same}
 use Rattle.reach.specs.Reach.{Mem, Inside, mark}
 use Rattle.reach.specs.code.Search.{Searched, Visit, after, entering}
 use Rattle.reach.proofs.Laws.{length-mark}
 use Rattle.reach.proofs.Settle.{settle-iter}
 use Rattle.reach.proofs.Search.{search-one, taken, finish, tail-le, queued-below}
 use Rattle.table.specs.declared.Row.{Row}
-use Rattle.table.specs.declared.Verdict.{Verdict}
-use Rattle.table.specs.declared.Verdict.TheVariants.{Accepted, Refused}
+use Rattle.table.specs.Verdicts.{Verdict, Accepted, Refused, number_of_reason}
+use Rattle.table.specs.declared.refusals.Reason.{Reason}
+use Rattle.table.specs.declared.index.Index.{Index}
+use Rattle.table.specs.Index.{no_procedure}
+use Rattle.declarations.specs.code.Limits.{over_limits}
+use Rattle.declarations.proofs.Laws.{limits-held, procedures_of, pass_from, pass_end, pass_on, pass_refused, on_part}
 use Rattle.table.specs.declared.index.ProcedureEntry.{ProcedureEntry}
 use Rattle.table.specs.Format.{op_mv_loc, op_cp_loc, op_st_loc, op_borrow_loc, op_ret}
 use Rattle.table.specs.Rows.{row_count, row_at}
@@ -185,29 +190,27 @@ module _ (t : List ℕ) (p : ProcedureEntry) (nodes : List Bool) (few : local_co
   unfolding fault_from local_fault
   fault_same = rw (empty-same, record_same, some_same)
 
--- a record in a local is found, and none below k + 1 where local k has none
-module _ (nodes : List Bool) (n count : ℕ) (records : LocalSet) (i : ℕ) where
-  pub record_none : some_record nodes n count records i 0 ≡ false
-  unfolding some_record
-  record_none = refl
+-- a test on the numbers below n, from the first on
+or_assoc : (a b c : Bool) → (a || (b || c)) ≡ ((a || b) || c)
+or_assoc true b c = refl
+or_assoc false b c = refl
 
-  pub record_past : (k : ℕ) → some_record nodes n count records i k ≡ false → record_at nodes n count records i k ≡ false → some_record nodes n count records i (k + 1) ≡ false
-  unfolding some_record
-  record_past k e h = rw (add-one, e, h)
+any_range : (test : ℕ → Bool) (a n : ℕ) → list_any test (range_with_len a (suc n)) ≡ (list_any test (range_with_len a n) || test (a + n))
+any_range test a zero = rw (or-false, add-zero)
+any_range test a (suc n) = let e : a + 1 + n ≡ a + suc n = omega arith in rw (any_range test (a + 1) n, e, or_assoc)
 
-  pub record_found : (k m : ℕ) → k < m → record_at nodes n count records i k ≡ true → some_record nodes n count records i m ≡ true
-  unfolding some_record
-  record_found k zero h e = absurd (omega arith)
-  record_found k (suc m) h e = go (ℕ_discrete k m) (λ l. record_found k m l e)
-    where
-      go : Dec (k ≡ m) → (k < m → some_record nodes n count records i m ≡ true) → (some_record nodes n count records i m || record_at nodes n count records i m) ≡ true
-      go (yes q) ih = rw (← q, e, or-true)
-      go (no q) ih = rw (ih (omega arith))
+pub any_below : (test below : ℕ → Bool) → below 0 ≡ false → ((n : ℕ) → below (suc n) ≡ (below n || test n)) → (n : ℕ) → list_any test (range_with_len 0 n) ≡ below n
+any_below test below z s zero = sym z
+any_below test below z s (suc n) = any_range test 0 n ∙ rw (zero-add, any_below test below z s n) (sym (s n))
 
 -- verdicts with the same faults
 pub verdict_same : (f g : ℕ → ℕ) (start n : ℕ) → ((i : ℕ) → i < n → f i ≡ g i) → code_verdict f start n ≡ code_verdict g start n
 unfolding code_verdict
 verdict_same f g start n h = first-same Accepted (λ (number i : ℕ). Refused number (start + i)) f g 0 n (λ j lo hi. h j (omega arith))
+
+-- the limits that a procedure keeps, whose code is c
+pub within : (t : List ℕ) (p : ProcedureEntry) {c : List ℕ} {over : Bool} → c ≡ code_of t p → over ≡ over_limits t p → over ≡ false → (local_count p ≤ 16) × (row_count c ≤ 256)
+within t p e o h = rw e (limits-held _ _ (sym o ∙ h))
 
 -- the verdict on the code of procedure p
 pub procedure_verdict :
@@ -222,3 +225,51 @@ pub procedure_verdict :
     → v ≡ code_verdict (local_fault t p) p.code (row_count c)
 procedure_verdict t c p nodes count params records v e n q r few parts h =
     rw e ((rw (r, n, e) at h) ∙ verdict_same _ (local_fault t p) p.code (row_count (code_of t p)) (fault_same t p nodes few (rw (n, q, e) at parts)))
+
+-- A loop over the procedures of an index with room for 128, `count` of them: what is left of the pass when it comes to procedure p.
+module _ (fault : ℕ → ProcedureEntry → ℕ → ℕ) (ix : Index) (t : List ℕ) {count : ℕ} (size : count ≡ min ix.procedures 128) (room : length ix.procedure_entries ≡ 128) where
+  listed : take count ix.procedure_entries ≡ procedures_of ix
+  listed = rw size (go (dec_lt ix.procedures 128))
+    where
+      go : Dec (ix.procedures < 128) → take (min ix.procedures 128) ix.procedure_entries ≡ procedures_of ix
+      go (yes h) = let e : min ix.procedures 128 ≡ ix.procedures = omega arith in rw e
+      go (no h) = let e : min ix.procedures 128 ≡ 128 = omega arith in rw e (take_all 128 ix.procedure_entries (omega arith) ∙ sym (take_all ix.procedures ix.procedure_entries (omega arith)))
+
+  pub procedures_done : (p : ℕ) → length (take count ix.procedure_entries) ≤ p → pass_from fault ix t p ≡ Accepted (row_count t)
+  procedures_done p h = pass_end fault ix t p (rw listed at h)
+
+  -- the verdict on procedure p, whose code is c
+  module _ (p : ℕ) (h : p < length (take count ix.procedure_entries)) {c : List ℕ} (q : c ≡ code_of t (get_or (take count ix.procedure_entries) p no_procedure)) where
+    abbrev own : ProcedureEntry
+    own = get_or (take count ix.procedure_entries) p no_procedure
+
+    pub procedure_accepted : {n : ℕ} → Accepted n ≡ code_verdict (fault p own) own.code (row_count c) → pass_from fault ix t p ≡ pass_from fault ix t (p + 1)
+    procedure_accepted {n} e = pass_on fault ix t p n own (rw listed at h) (ap (λ (l : List ProcedureEntry). get_or l p no_procedure) listed) (on_part fault ix t c p own (Accepted n) q e)
+
+    pub procedure_refused : {number row : ℕ} → Refused number row ≡ code_verdict (fault p own) own.code (row_count c) → pass_from fault ix t p ≡ Refused number row
+    procedure_refused {number} {row} e = pass_refused fault ix t p number row own (rw listed at h) (ap (λ (l : List ProcedureEntry). get_or l p no_procedure) listed) (on_part fault ix t c p own (Refused number row) q e)
+
+-- a reason's number is not 0
+some_number : (r : Reason) → number_of_reason r ≡ 0 → ⊥
+some_number r = grind arith
+
+-- what is left of a procedure's verdict when it comes to instruction i
+module _ (fault : ℕ → ℕ) (start n : ℕ) where
+  unfoldable pub verdict_from : ℕ → Verdict
+  verdict_from i = from Accepted (λ (number j : ℕ). Refused number (start + j)) fault n i
+
+  pub verdict_start : code_verdict fault start n ≡ verdict_from 0
+  unfolding code_verdict verdict_from
+  verdict_start = whole Accepted (λ (number j : ℕ). Refused number (start + j)) fault n
+
+  pub verdict_next : {i : ℕ} → i < n → fault i ≡ 0 → verdict_from i ≡ verdict_from (i + 1)
+  unfolding verdict_from
+  verdict_next h e = fine Accepted (λ (number j : ℕ). Refused number (start + j)) fault n _ h e
+
+  pub verdict_refused : {i : ℕ} (r : Reason) → i < n → fault i ≡ number_of_reason r → verdict_from i ≡ Refused (number_of_reason r) (start + i)
+  unfolding verdict_from
+  verdict_refused r h e = faulty_with Accepted (λ (number j : ℕ). Refused number (start + j)) fault n _ _ h e (some_number r)
+
+  pub verdict_end : {i : ℕ} → n ≤ i → i ≤ n → verdict_from i ≡ Accepted n
+  unfolding verdict_from
+  verdict_end {i} h k = let e : i ≡ n = omega arith in rw e (done Accepted (λ (number j : ℕ). Refused number (start + j)) fault n)

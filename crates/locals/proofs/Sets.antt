@@ -15,14 +15,9 @@ use Rattle.locals.specs.declared.LocalSet.{LocalSet}
 use Rattle.locals.specs.code.Sets.{no_locals, inserted, contains, those}
 
 -- a number that is no local's
-module _ (s : LocalSet) (size : length s.has ≡ 16) (l : ℕ) where
-  pub insert_past : 16 ≤ l → s ≡ inserted s l
-  unfolding inserted
-  insert_past h = ap (λ (x : List Bool). record { has = x }) (sym (set_out s.has l true (omega arith)))
-
-  pub contains_past : 16 ≤ l → false ≡ contains s l
-  unfolding contains
-  contains_past h = sym (get_or-eq_default s.has false {n = l} (omega arith))
+pub insert_past : (s : LocalSet) → length s.has ≡ 16 → (l : ℕ) → 16 ≤ l → s ≡ inserted s l
+unfolding inserted
+insert_past s size l h = ap (λ (x : List Bool). record { has = x }) (sym (set_out s.has l true (omega arith)))
 
 -- the locals of which a test holds
 module _ (test : ℕ → Bool) where

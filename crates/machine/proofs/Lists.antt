@@ -8,7 +8,7 @@ use mathlib.Core.Logic.{◌⊎◌, inl, inr, ⊎_elim}
 use native.Mathlib.Omega.{arith}
 use lib.ListN.{length, drop, replicate, length-append, length-map, length-drop, length-replicate, get_elem? as nth}
 use Rattle.laws.specs.Sorting.{insert_by, sort_by}
-use Rattle.table.specs.declared.Verdict.TheVariants.{Accepted}
+use Rattle.table.specs.Verdicts.{Accepted}
 use Rattle.table.specs.Index.{index_of}
 use Rattle.declarations.specs.Program.{procedure_in, local_count}
 use Rattle.judging.specs.Judging.{judge_of}

@@ -89,13 +89,8 @@ fn run_next<R: Read, W: Write>(
         return Ok(false);
     }
     writeln!(out, "case {k}").context("standard output")?;
-    let answer = running::run_list(
-        &table[..n],
-        &list[..m],
-        &rules[..r],
-        has as u64,
-        &mut text[..size],
-    );
+    let file = if has == 0 { None } else { Some(&rules[..r]) };
+    let answer = running::run_list(&table[..n], &list[..m], file, &mut text[..size]);
     printing::print_run(out, answer, &text[..size]).context("standard output")?;
     Ok(true)
 }

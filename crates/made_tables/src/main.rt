@@ -57,7 +57,8 @@ fn judge_next<R: Read, W: Write>(
     if rules.len() < m {
         return Ok(false);
     }
-    let verdict = judging::judge_under(&table[..n], &rules[..m], has as u64);
+    let file = if has == 0 { None } else { Some(&rules[..m]) };
+    let verdict = judging::judge_under(&table[..n], file);
     printing::print_verdict(out, verdict).context("standard output")?;
     Ok(true)
 }

@@ -9,7 +9,7 @@ use borrow.Author.Tests.{leb-false, eqb-true, eq-eqb, not-false}
 use lib.Dec.{eqb, leb}
 use Rattle.laws.specs.Lists.{count}
 use Rattle.laws.proofs.First.{unfaulted}
-use Rattle.table.specs.declared.Verdict.TheVariants.{Accepted}
+use Rattle.table.specs.Verdicts.{Accepted}
 use Rattle.table.specs.declared.index.Index.{Index}
 use Rattle.table.specs.declared.index.ProcedureEntry.{ProcedureEntry}
 use Rattle.table.specs.Format.{type_kind, field_kind, procedure_kind, local_kind, result_kind, instruction_kind, record_sort}

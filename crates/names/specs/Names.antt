@@ -2,14 +2,13 @@
 use Rattle.std.specs.Prelude.{ℕ, ◌-◌, ◌/◌, ◌%◌, Bool, false, cond, not, ◌&&◌, ◌||◌, List, [], ◌∷◌, eqb, leb, get_or}
 use Rattle.laws.specs.Lists.{count}
 use Rattle.table.specs.declared.Row.{Row}
-use Rattle.table.specs.declared.Verdict.{Verdict}
+use Rattle.table.specs.Verdicts.{Verdict, pass_over}
 use Rattle.table.specs.declared.index.Index.{Index}
 use Rattle.table.specs.declared.index.ProcedureEntry.{ProcedureEntry}
 use Rattle.table.specs.declared.index.TypeEntry.{TypeEntry}
 use Rattle.table.specs.Format.{type_kind, field_kind, procedure_kind, local_kind, result_kind, instruction_kind, record_sort, op_ret, op_branch}
 use Rattle.table.specs.Flags.{has_type}
 use Rattle.table.specs.Rows.{row_count, row_at, is_kind}
-use Rattle.table.specs.Verdicts.{pass_over}
 use Rattle.table.specs.Index.{index_of}
 use Rattle.table.specs.Refusals.{open_end, not_declared}
 use Rattle.declarations.specs.Program.{type_in, procedure_in, field_count, local_count, code_length}

@@ -1,138 +1,15 @@
 // The names pass: refusals 5 and 6.
 #![tactic(auto)]
 
-ghost use Rattle.std.specs.Prelude.{◌≡◌, cond, ◌+◌, ◌%◌, ◌/◌, ◌<◌, eqb, get_or, ◌&&◌};
+ghost use Rattle.std.specs.Prelude.{◌≡◌, cond, ◌+◌, ◌%◌, ◌/◌, ◌<◌, eqb, get_or};
 ghost use Rattle.table.specs.Format.{procedure_kind};
+ghost use Rattle.table.specs.Verdicts.{verdict_of, fault_of};
 ghost use Rattle.table.specs.Flags.{has_type};
 ghost use Rattle.names.specs.Names.{names_with, bad_end, not_lower, no_such_type, no_such_name, names, nothing, no_such_field, missing, name_fault};
 
 use table::index::{Index, ProcedureEntry, TypeEntry};
-use table::{Row, Verdict, format, refusals};
-
-// Whether a sort has a type.
-fn has_type(sort: u8) -> bool
-    ensures { result ≡ has_type sort }
-{
-    if sort == format::RECORD {
-        return true;
-    }
-    if sort == format::RECORD_REFERENCE {
-        return true;
-    }
-    sort == format::RECORD_READER
-}
-
-// 5: a procedure without instructions, or whose last is neither Ret nor Branch.
-fn bad_end(table: &[u8], p: ProcedureEntry) -> bool
-    ensures { result ≡ bad_end table.now p }
-{
-    if p.end <= p.code {
-        return true;
-    }
-    let last = table::row_at(table, (p.end - 1) as usize);
-    if last.a == format::RET {
-        return false;
-    }
-    last.a != format::BRANCH
-}
-
-// 6: a field's type that is not lower than its own type, of which y begin above.
-fn bad_field(row: Row, y: usize) -> bool
-    ensures { result ≡ not_lower y row }
-{
-    if row.kind == format::FIELD {
-        if row.a == format::RECORD {
-            return y <= (row.b as usize) + 1;
-        }
-    }
-    false
-}
-
-// 6: the type of a local or a result.
-fn bad_declared(row: Row, types: usize) -> bool
-    ensures { result ≡ no_such_type types row }
-{
-    if row.kind == format::LOCAL {
-        if has_type(row.a) {
-            return types <= (row.b as usize);
-        }
-        return false;
-    }
-    if row.kind == format::RESULT {
-        if has_type(row.a) {
-            return types <= (row.b as usize);
-        }
-    }
-    false
-}
-
-// 6: field b % 8 of type b / 8, whose entry is y.
-fn bad_field_number(types: usize, y: TypeEntry, b: u16) -> bool
-    ensures { result ≡ no_such_field types y b }
-{
-    if types <= (b / 8) as usize {
-        return true;
-    }
-    (y.end as usize) <= (y.row as usize) + 1 + ((b % 8) as usize)
-}
-
-// 6: what an instruction's operand names does not exist. y is the entry of type b / 8, p that of the procedure.
-fn bad_operand(
-    opcode: u8,
-    b: u16,
-    types: usize,
-    procedures: usize,
-    y: TypeEntry,
-    p: ProcedureEntry,
-) -> bool
-    ensures { result ≡ missing types procedures y p b (get_or names opcode nothing) }
-{
-    if opcode < format::MV_LOC {
-        return false;
-    }
-    if opcode <= format::BORROW_LOC {
-        return (p.results as usize) <= (p.row as usize) + 1 + (b as usize);
-    }
-    if opcode < format::BORROW_FLD {
-        return false;
-    }
-    if opcode == format::BORROW_FLD {
-        return bad_field_number(types, y, b);
-    }
-    if opcode < format::CALL {
-        return types <= b as usize;
-    }
-    if opcode == format::CALL {
-        return procedures <= b as usize;
-    }
-    if opcode == format::RET {
-        return false;
-    }
-    if opcode <= format::BRANCH_COND {
-        return (p.end as usize) <= (p.code as usize) + (b as usize);
-    }
-    false
-}
-
-// 6: what an instruction names does not exist.
-fn bad_name(row: Row, types: usize, procedures: usize, y: TypeEntry, p: ProcedureEntry) -> bool
-    ensures { result ≡ no_such_name types procedures y p row }
-{
-    if row.kind == format::INSTRUCTION {
-        return bad_operand(row.a, row.b, types, procedures, y, p);
-    }
-    false
-}
-
-// 5: a procedure's row whose instructions end badly.
-fn bad_start(table: &[u8], row: Row, starts: ProcedureEntry) -> bool
-    ensures { result ≡ (eqb row.kind procedure_kind && bad_end table.now starts) }
-{
-    if row.kind == format::PROCEDURE {
-        return bad_end(table, starts);
-    }
-    false
-}
+use table::refusals::{Reason, Refusal};
+use table::{Row, format};
 
 // What stands around a row: the numbers of types and procedures in all, the number of types that begin above, type B / 8, the procedure
 // that the row stands in, and the one that starts at the row.
@@ -146,26 +23,96 @@ pub struct Scope {
     pub starts: ProcedureEntry,
 }
 
-// The lowest number that a row earns, or 0.
-fn name_fault(table: &[u8], row: Row, s: Scope) -> u8
-    ensures { result ≡ name_fault table.now s.types s.procedures s.above s.named s.own s.starts row }
+// Whether a sort has a type.
+#[tactic(auto, unfolding(table::specs::Flags::has_type, laws::specs::Lists::member))]
+fn has_type(sort: u8) -> bool
+    ensures { result ≡ has_type sort }
+{
+    matches!(
+        sort,
+        format::RECORD | format::RECORD_REFERENCE | format::RECORD_READER
+    )
+}
+
+// 5: a procedure without instructions, or whose last is neither Ret nor Branch.
+#[tactic(auto, unfolding(crate::specs::Names::bad_end))]
+fn bad_end(table: &[u8], p: ProcedureEntry) -> bool
+    ensures { result ≡ bad_end table.now p }
+{
+    p.end <= p.code
+        || !matches!(
+            table::row_at(table, usize::from(p.end - 1)).a,
+            format::RET | format::BRANCH
+        )
+}
+
+// 6: a field's type that is not lower than its own type, of which y begin above.
+#[tactic(auto, unfolding(crate::specs::Names::not_lower))]
+fn bad_field(row: Row, y: usize) -> bool
+    ensures { result ≡ not_lower y row }
+{
+    row.kind == format::FIELD
+        && row.a == format::RECORD
+        && y.saturating_sub(1) <= usize::from(row.b)
+}
+
+// 6: the type of a local or a result.
+#[tactic(auto, unfolding(crate::specs::Names::no_such_type))]
+fn bad_declared(row: Row, types: usize) -> bool
+    ensures { result ≡ no_such_type types row }
+{
+    (row.kind == format::LOCAL || row.kind == format::RESULT)
+        && has_type(row.a)
+        && types <= usize::from(row.b)
+}
+
+// 6: field b % 8 of type b / 8.
+fn bad_field_number(s: Scope, b: u16) -> bool
+    ensures { result ≡ no_such_field s.types s.named b }
+{
+    s.types <= usize::from(b / 8)
+        || usize::from(s.named.end) <= usize::from(s.named.row) + 1 + usize::from(b % 8)
+}
+
+// 6: what an instruction's operand names does not exist.
+fn bad_operand(opcode: u8, b: u16, s: Scope) -> bool
+    ensures { result ≡ missing s.types s.procedures s.named s.own b (get_or names opcode nothing) }
 {
     let own = s.own;
-    let starts = s.starts;
-    let named = s.named;
-    if bad_start(table, row, starts) {
-        return refusals::OPEN_END;
+    match opcode {
+        format::MV_LOC..=format::BORROW_LOC => {
+            usize::from(own.results) <= usize::from(own.row) + 1 + usize::from(b)
+        }
+        format::BORROW_FLD => bad_field_number(s, b),
+        format::PACK..=format::EXISTS => s.types <= usize::from(b),
+        format::CALL => s.procedures <= usize::from(b),
+        format::BRANCH | format::BRANCH_COND => {
+            usize::from(own.end) <= usize::from(own.code) + usize::from(b)
+        }
+        _ => false,
     }
-    if bad_field(row, s.above) {
-        return refusals::NOT_DECLARED;
+}
+
+// 6: what an instruction names does not exist.
+#[tactic(auto, unfolding(crate::specs::Names::no_such_name))]
+fn bad_name(row: Row, s: Scope) -> bool
+    ensures { result ≡ no_such_name s.types s.procedures s.named s.own row }
+{
+    row.kind == format::INSTRUCTION && bad_operand(row.a, row.b, s)
+}
+
+// The reason for which a row is refused.
+#[tactic(auto, unfolding(crate::specs::Names::name_fault))]
+fn name_fault(table: &[u8], row: Row, s: Scope) -> Option<Reason>
+    ensures { fault_of result ≡ name_fault table.now s.types s.procedures s.above s.named s.own s.starts row }
+{
+    if row.kind == format::PROCEDURE && bad_end(table, s.starts) {
+        Some(Reason::OpenEnd)
+    } else if bad_field(row, s.above) || bad_declared(row, s.types) || bad_name(row, s) {
+        Some(Reason::NotDeclared)
+    } else {
+        None
     }
-    if bad_declared(row, s.types) {
-        return refusals::NOT_DECLARED;
-    }
-    if bad_name(row, s.types, s.procedures, named, own) {
-        return refusals::NOT_DECLARED;
-    }
-    0
 }
 
 // One more where the kind is the one that is counted.
@@ -173,7 +120,7 @@ fn counted(kind: u8, of: u8, n: usize) -> usize
     requires { n < 18446744073709551615 }
     ensures { result ≡ cond (eqb kind of) (n + 1) n }
 {
-    if kind == of { n + 1 } else { n }
+    n + usize::from(kind == of)
 }
 
 // The procedure that the next row stands in.
@@ -188,44 +135,39 @@ fn next_own(kind: u8, own: ProcedureEntry, starts: ProcedureEntry) -> ProcedureE
 }
 
 // The names pass over a table with a given index.
-pub fn names_with(table: &[u8], index: Index) -> Verdict
-    ensures { result ≡ names_with index table.now }
+pub fn names_with(table: &[u8], index: Index) -> Result<usize, Refusal>
+    ensures { verdict_of result ≡ names_with index table.now }
 {
     let n = table.len() / format::ROW_BYTES;
     let mut own = index.procedure_entries[0];
     let mut y = 0;
     let mut p = 0;
-    let mut i = 0;
-    while i < n {
+    for i in 0..n {
         let row = table::row_at(table, i);
-        let mut named = TypeEntry::NONE;
-        let at = (row.b / 8) as usize;
-        if at < format::MAX_TYPES {
-            named = index.type_entries[at];
-        }
-        let mut starts = ProcedureEntry::NONE;
-        if p < format::MAX_PROCEDURES {
-            starts = index.procedure_entries[p];
-        }
-        let fault = name_fault(
-            table,
-            row,
-            Scope {
-                types: index.types,
-                procedures: index.procedures,
-                above: y,
-                named,
-                own,
-                starts,
-            },
-        );
-        if fault != 0 {
-            return Verdict::Refused(fault, i);
+        let named = index
+            .type_entries
+            .get(usize::from(row.b / 8))
+            .copied()
+            .unwrap_or(TypeEntry::NONE);
+        let starts = index
+            .procedure_entries
+            .get(p)
+            .copied()
+            .unwrap_or(ProcedureEntry::NONE);
+        let scope = Scope {
+            types: index.types,
+            procedures: index.procedures,
+            above: y,
+            named,
+            own,
+            starts,
+        };
+        if let Some(reason) = name_fault(table, row, scope) {
+            return Err(reason.at(i));
         }
         y = counted(row.kind, format::TYPE, y);
         p = counted(row.kind, format::PROCEDURE, p);
         own = next_own(row.kind, own, starts);
-        i += 1;
     }
-    Verdict::Accepted(n)
+    Ok(n)
 }

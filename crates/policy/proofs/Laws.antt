@@ -17,18 +17,19 @@ use Rattle.laws.proofs.First.{first-same}
 use Rattle.laws.proofs.Lists.{is-tabulate, get_d_tabulate, length-tabulate, hits_skip}
 use Rattle.laws.proofs.Tests.{and_both, both_and, same_test, test_fails}
 use Rattle.table.specs.declared.Row.{Row}
-use Rattle.table.specs.declared.Verdict.TheVariants.{Accepted, Refused}
+use Rattle.table.specs.Verdicts.{Accepted, Refused, value_of}
 use Rattle.table.specs.declared.index.Index.{Index}
 use Rattle.table.specs.declared.index.ProcedureEntry.{ProcedureEntry}
 use Rattle.table.specs.Format.{op_call}
 use Rattle.table.specs.Refusals.{forbidden_call}
-use Rattle.table.specs.Verdicts.{value_of}
 use Rattle.table.specs.Rows.{row_count, row_at, row_from}
 use Rattle.table.proofs.Laws.{row_inside}
 use Rattle.declarations.specs.Program.{procedure_in, code_pass}
 use Rattle.declarations.proofs.Passes.{over_rows}
+use Rattle.policy.specs.declared.Standing.{Standing}
+use Rattle.policy.specs.declared.Standing.TheVariants.{Unruled, Forbidden, Allowed, Several}
 use Rattle.policy.specs.Policy.{rule_byte, allows, first_caller, last_caller, first_called, last_called, zero_bytes, not_zero, bad_range, bad_rule, rule_fault, file_of, covers, rules_for, pair_fault, pairs_of, allowed_by, permits, call_fault}
-use Rattle.policy.specs.code.Grid.{standing_by, painted, grid_up_to, grid_of, painted_if, painted_from, painted_by, unruled_in, pairs_in, permits_in, forbidden_in, calls_in}
+use Rattle.policy.specs.code.Grid.{standing_by, under_one, is_allowed, painted, grid_up_to, grid_of, painted_if, painted_from, painted_by, unruled_in, pairs_in, permits_in, forbidden_in, calls_in}
 use Rattle.policy.proofs.Words.{rule-good, good-rule, covers-told, file_told, file_accepts}
 
 -- a number is 0 exactly if its lowest byte and the number of the others are
@@ -72,46 +73,46 @@ module _ (first last k : ℕ) where
   range_if h l = rw (le-leb first k h, lt-ltb k last l)
 
 -- A grid painted by a test: its length, how each pair stands in it, and that this tells it.
-module _ (test : ℕ → Bool) (allow : Bool) (grid : List ℕ) where
+module _ (test : ℕ → Bool) (allow : Bool) (grid : List Standing) where
   pub painted-length : length (painted_if test allow grid) ≡ length grid
   unfolding painted_if
   painted-length = length-tabulate _ (length grid)
 
-  painted-at : (k : ℕ) → k < length grid → get_or (painted_if test allow grid) k 0 ≡ cond (test k) (painted (get_or grid k 0) allow) (get_or grid k 0)
+  painted-at : (k : ℕ) → k < length grid → get_or (painted_if test allow grid) k Unruled ≡ cond (test k) (painted (get_or grid k Unruled) allow) (get_or grid k Unruled)
   unfolding painted_if
-  painted-at k h = get_d_tabulate _ 0 (length grid) k h
+  painted-at k h = get_d_tabulate _ Unruled (length grid) k h
 
-  is-painted : (l : List ℕ) → length l ≡ length grid → ((k : ℕ) → k < length grid → get_or l k 0 ≡ cond (test k) (painted (get_or grid k 0) allow) (get_or grid k 0)) → l ≡ painted_if test allow grid
+  is-painted : (l : List Standing) → length l ≡ length grid → ((k : ℕ) → k < length grid → get_or l k Unruled ≡ cond (test k) (painted (get_or grid k Unruled) allow) (get_or grid k Unruled)) → l ≡ painted_if test allow grid
   unfolding painted_if
-  is-painted l e h = is-tabulate _ 0 (length grid) l e h
+  is-painted l e h = is-tabulate _ Unruled (length grid) l e h
 
   -- by a test that no pair passes
   painted-none : ((k : ℕ) → k < length grid → test k ≡ true → ⊥) → grid ≡ painted_if test allow grid
   painted-none h = is-painted grid refl (λ k l. rw (test_fails (test k) (h k l)))
 
 -- by a test that the same pairs pass
-painted_same : (test other : ℕ → Bool) (allow : Bool) (grid : List ℕ) → ((k : ℕ) → k < length grid → other k ≡ test k) → painted_if other allow grid ≡ painted_if test allow grid
+painted_same : (test other : ℕ → Bool) (allow : Bool) (grid : List Standing) → ((k : ℕ) → k < length grid → other k ≡ test k) → painted_if other allow grid ≡ painted_if test allow grid
 painted_same test other allow grid h = is-painted test allow grid _ (painted-length other allow grid) (λ k l. painted-at other allow grid k l ∙ rw (h k l))
 
 -- one pair painted
-painted_pair : (allow : Bool) (grid : List ℕ) (k : ℕ) → k < length grid → set grid k (painted (get_or grid k 0) allow) ≡ painted_if (λ (j : ℕ). eqb j k) allow grid
+painted_pair : (allow : Bool) (grid : List Standing) (k : ℕ) → k < length grid → set grid k (painted (get_or grid k Unruled) allow) ≡ painted_if (λ (j : ℕ). eqb j k) allow grid
 painted_pair allow grid k h = is-painted _ allow grid _ (length-set grid k _) (λ j l. go j (ℕ_discrete j k))
   where
-    go : (j : ℕ) → Dec (j ≡ k) → get_or (set grid k (painted (get_or grid k 0) allow)) j 0 ≡ cond (eqb j k) (painted (get_or grid j 0) allow) (get_or grid j 0)
-    go j (yes e) = rw (e, eq-eqb k k refl) (get_or-set_same grid k _ 0 h)
-    go j (no e) = rw (ne_eqb j k e) (get_or-set_other grid k j _ 0 e)
+    go : (j : ℕ) → Dec (j ≡ k) → get_or (set grid k (painted (get_or grid k Unruled) allow)) j Unruled ≡ cond (eqb j k) (painted (get_or grid j Unruled) allow) (get_or grid j Unruled)
+    go j (yes e) = rw (e, eq-eqb k k refl) (get_or-set_same grid k _ Unruled h)
+    go j (no e) = rw (ne_eqb j k e) (get_or-set_other grid k j _ Unruled e)
 
 -- `both` holds of what passes one of two tests, and no pair passes both of these
 abbrev Joins : Bool → Bool → Bool → Type 0
 Joins first second both = (first ≡ true → second ≡ true → ⊥) × (first ≡ true → both ≡ true) × (second ≡ true → both ≡ true) × (both ≡ true → (first ≡ true → ⊥) → second ≡ true)
 
 -- painted by one test, and then by another
-painted_both : (first second both : ℕ → Bool) (allow : Bool) (grid : List ℕ) → ((k : ℕ) → k < length grid → Joins (first k) (second k) (both k))
+painted_both : (first second both : ℕ → Bool) (allow : Bool) (grid : List Standing) → ((k : ℕ) → k < length grid → Joins (first k) (second k) (both k))
     → painted_if second allow (painted_if first allow grid) ≡ painted_if both allow grid
 painted_both first second both allow grid h = is-painted both allow grid _ (painted-length second allow _ ∙ painted-length first allow grid)
-    (λ k l. painted-at second allow _ k (rw painted-length l) ∙ rw (painted-at first allow grid k l) (go (first k) (second k) (both k) (h k l) (get_or grid k 0)))
+    (λ k l. painted-at second allow _ k (rw painted-length l) ∙ rw (painted-at first allow grid k l) (go (first k) (second k) (both k) (h k l) (get_or grid k Unruled)))
   where
-    go : (f s b : Bool) → Joins f s b → (g : ℕ) → cond s (painted (cond f (painted g allow) g) allow) (cond f (painted g allow) g) ≡ cond b (painted g allow) g
+    go : (f s b : Bool) → Joins f s b → (g : Standing) → cond s (painted (cond f (painted g allow) g) allow) (cond f (painted g allow) g) ≡ cond b (painted g allow) g
     go true true b j g = absurd (j.0 refl refl)
     go true false b j g = rw (j.1 refl)
     go false true b j g = rw (j.2 refl)
@@ -119,12 +120,12 @@ painted_both first second both allow grid h = is-painted both allow grid _ (pain
     go false false false j g = refl
 
 -- Painted from one pair to before another: none, one more, and past the end.
-module _ (first : ℕ) (allow : Bool) (grid : List ℕ) where
+module _ (first : ℕ) (allow : Bool) (grid : List Standing) where
   pub range_none : grid ≡ painted_from first first allow grid
   unfolding painted_from
   range_none = painted-none _ allow grid (λ k l t. omega (arith, range_told first first k t))
 
-  pub range_next : (k : ℕ) (l : List ℕ) (p : ℕ) → first ≤ k → k < length grid → l ≡ painted_from first k allow grid → p ≡ painted (get_or l k 0) allow → set l k p ≡ painted_from first (k + 1) allow grid
+  pub range_next : (k : ℕ) (l : List Standing) (p : Standing) → first ≤ k → k < length grid → l ≡ painted_from first k allow grid → p ≡ painted (get_or l k Unruled) allow → set l k p ≡ painted_from first (k + 1) allow grid
   unfolding painted_from
   range_next k l p h i e q =
       rw (q, e) (painted_pair allow _ k (rw painted-length i) ∙ painted_both _ _ _ allow grid (λ j m. (
@@ -141,8 +142,8 @@ module _ (first : ℕ) (allow : Bool) (grid : List ℕ) where
       (λ t. let b = range_told first last j t in range_if first k j b.0 (omega arith)))
 
 -- Painted by rule row i, as far as calling module c: not yet, one caller more, and all.
-module _ (r : List ℕ) (i : ℕ) (grid : List ℕ) where
-  abbrev pub painted_to : ℕ → List ℕ
+module _ (r : List ℕ) (i : ℕ) (grid : List Standing) where
+  abbrev pub painted_to : ℕ → List Standing
   painted_to c = painted_if (λ (k : ℕ). covers r (k / 16) (k % 16) i && ltb (k / 16) c) (allows r i) grid
 
   to_told : (c k : ℕ) → (covers r (k / 16) (k % 16) i && ltb (k / 16) c) ≡ true → (first_caller r i ≤ k / 16) × (k / 16 ≤ last_caller r i) × (first_called r i ≤ k % 16) × (k % 16 ≤ last_called r i) × (k / 16 < c)
@@ -151,7 +152,7 @@ module _ (r : List ℕ) (i : ℕ) (grid : List ℕ) where
   pub rule-none : grid ≡ painted_to (first_caller r i)
   rule-none = painted-none _ (allows r i) grid (λ k l t. omega (arith, to_told (first_caller r i) k t))
 
-  pub rule-next : (c : ℕ) (l : List ℕ) → l ≡ painted_to c → first_caller r i ≤ c → c ≤ last_caller r i → last_called r i < 16
+  pub rule-next : (c : ℕ) (l : List Standing) → l ≡ painted_to c → first_caller r i ≤ c → c ≤ last_caller r i → last_called r i < 16
       → painted_from (16 * c + first_called r i) (16 * c + (last_called r i + 1)) (allows r i) l ≡ painted_to (c + 1)
   unfolding painted_from
   rule-next c l e g h w = rw e (painted_both _ _ _ (allows r i) grid (λ k m. (
@@ -174,7 +175,7 @@ module _ (r : List ℕ) (n : ℕ) where
   standing_more [] = refl
   standing_more (i ∷ []) = go (allows r i)
     where
-      go : (b : Bool) → ◌≡◌ {A = ℕ} 3 (cond (eqb (cond b 2 1) 0) (cond (allows r n) 2 1) 3)
+      go : (b : Bool) → ◌≡◌ {A = Standing} Several (painted (cond b Allowed Forbidden) (allows r n))
       go true = refl
       go false = refl
   standing_more (i ∷ j ∷ is) = refl
@@ -191,16 +192,16 @@ module _ (r : List ℕ) (n : ℕ) where
   unfolding grid_up_to
   grid_length = length-tabulate _ 256
 
-  pub grid_at : (k : ℕ) → k < 256 → get_or (grid_up_to r n) k 0 ≡ standing_by r (hits (covers r (k / 16) (k % 16)) n)
+  pub grid_at : (k : ℕ) → k < 256 → get_or (grid_up_to r n) k Unruled ≡ standing_by r (hits (covers r (k / 16) (k % 16)) n)
   unfolding grid_up_to
-  grid_at k h = get_d_tabulate _ 0 256 k h
+  grid_at k h = get_d_tabulate _ Unruled 256 k h
 
 -- the grid under no row, and under one row more
-pub grid_none : (r : List ℕ) → replicate 256 0 ≡ grid_up_to r 0
+pub grid_none : (r : List ℕ) → replicate 256 Unruled ≡ grid_up_to r 0
 unfolding grid_up_to hits
-grid_none r = is-tabulate _ 0 256 (replicate 256 0) (length-replicate {A = ℕ} 256 0) (λ k h. get_or-replicate 256 k 0 0 h)
+grid_none r = is-tabulate _ Unruled 256 (replicate 256 Unruled) (length-replicate {A = Standing} 256 Unruled) (λ k h. get_or-replicate 256 k Unruled Unruled h)
 
-pub grid_next : (r : List ℕ) (n : ℕ) (l : List ℕ) → l ≡ grid_up_to r n → painted_by r n l ≡ grid_up_to r (n + 1)
+pub grid_next : (r : List ℕ) (n : ℕ) (l : List Standing) → l ≡ grid_up_to r n → painted_by r n l ≡ grid_up_to r (n + 1)
 unfolding painted_by
 grid_next r n l e = rw e (sym (is-painted _ (allows r n) (grid_up_to r n) _ (grid_length r (n + 1) ∙ sym (grid_length r n)) (λ k h.
     let b : k < 256 = omega (arith, grid_length r n) in
@@ -208,26 +209,26 @@ grid_next r n l e = rw e (sym (is-painted _ (allows r n) (grid_up_to r n) _ (gri
 
 -- How a pair stands tells whether it stands under one row, and whether that allows.
 module _ (r : List ℕ) where
-  standing-one : (l : List ℕ) → (eqb (standing_by r l) 1 || eqb (standing_by r l) 2) ≡ eqb (length l) 1
+  standing-one : (l : List ℕ) → under_one (standing_by r l) ≡ eqb (length l) 1
   standing-one [] = refl
   standing-one (i ∷ []) = go (allows r i)
     where
-      go : (b : Bool) → (eqb (cond b 2 1) 1 || eqb (cond b 2 1) 2) ≡ true
+      go : (b : Bool) → under_one (cond b Allowed Forbidden) ≡ true
       go true = refl
       go false = refl
   standing-one (i ∷ j ∷ is) = sym (ne_eqb (length (i ∷ j ∷ is)) 1 (λ z. omega arith))
 
-  standing-allowed : (l : List ℕ) → eqb (standing_by r l) 2 ≡ allowed_by r l
+  standing-allowed : (l : List ℕ) → is_allowed (standing_by r l) ≡ allowed_by r l
   standing-allowed [] = refl
   standing-allowed (i ∷ []) = go (allows r i)
     where
-      go : (b : Bool) → eqb (cond b 2 1) 2 ≡ b
+      go : (b : Bool) → is_allowed (cond b Allowed Forbidden) ≡ b
       go true = refl
       go false = refl
   standing-allowed (i ∷ j ∷ is) = refl
 
 -- the grid tells the pairs that are refused
-pub pairs-same : (r grid : List ℕ) (modules : ℕ) → grid ≡ grid_of r → pairs_in grid modules ≡ pairs_of r modules
+pub pairs-same : (r : List ℕ) (grid : List Standing) (modules : ℕ) → grid ≡ grid_of r → pairs_in grid modules ≡ pairs_of r modules
 unfolding pairs_in pairs_of unruled_in pair_fault rules_for grid_of
 pairs-same r grid modules e = first-same Accepted Refused _ _ 0 256 (λ k lo h. rw (e, grid_at r (row_count r) k (omega arith), standing-one r (hits (covers r (k / 16) (k % 16)) (row_count r))))
 
@@ -244,7 +245,7 @@ module _ (r : List ℕ) (n : ℕ) (e : file_of r ≡ Accepted n) where
   unfolding permits_in permits grid_of rules_for
   permits-same c d = go (dec_lt c 16) (dec_lt d 16)
     where
-      go : Dec (c < 16) → Dec (d < 16) → (ltb c 16 && ltb d 16 && eqb (get_or (grid_of r) (16 * c + d) 0) 2) ≡ allowed_by r (rules_for r c d)
+      go : Dec (c < 16) → Dec (d < 16) → (ltb c 16 && ltb d 16 && is_allowed (get_or (grid_of r) (16 * c + d) Unruled)) ≡ allowed_by r (rules_for r c d)
       go (yes a) (yes b) =
           let x : (16 * c + d) / 16 ≡ c = omega arith in
           let y : (16 * c + d) % 16 ≡ d = omega arith in
@@ -252,12 +253,12 @@ module _ (r : List ℕ) (n : ℕ) (e : file_of r ≡ Accepted n) where
       go (yes a) (no b) = rw (rules_none c d (λ g h. b h), le-ltb d 16 (omega arith), and-false)
       go (no a) b = rw (rules_none c d (λ g h. a g), le-ltb c 16 (omega arith))
 
-  pub calls_same : (grid t : List ℕ) (ix : Index) → grid ≡ grid_of r → calls_in grid ix t ≡ code_pass (λ (q : ℕ). call_fault r t ix) ix t
+  pub calls_same : (grid : List Standing) (t : List ℕ) (ix : Index) → grid ≡ grid_of r → calls_in grid ix t ≡ code_pass (λ (q : ℕ). call_fault r t ix) ix t
   unfolding calls_in forbidden_in call_fault
   calls_same grid t ix q = rw q (ap (λ (f : ℕ → ProcedureEntry → ℕ → ℕ). code_pass f ix t) (fun_ext (λ q. fun_ext (λ p. fun_ext (λ i. rw permits-same)))))
 
 -- The fault of instruction i, from what is read of it: that of one that is no Call, and that of a Call.
-module _ (grid code : List ℕ) (ix : Index) (own : ProcedureEntry) (i : ℕ) (row : Row) (e : row ≡ row_at code i) where
+module _ (grid : List Standing) (code : List ℕ) (ix : Index) (own : ProcedureEntry) (i : ℕ) (row : Row) (e : row ≡ row_at code i) where
   pub other_fault : (row.a ≡ op_call → ⊥) → forbidden_in grid code ix own i ≡ 0
   unfolding forbidden_in
   other_fault h = rw (← e, ne_eqb row.a op_call h)

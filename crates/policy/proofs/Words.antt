@@ -13,13 +13,12 @@ use Rattle.laws.specs.Lists.{member, every}
 use Rattle.laws.proofs.First.{unfaulted, faulted}
 use Rattle.laws.proofs.Lists.{every-at, hits-only, only-hits}
 use Rattle.laws.proofs.Tests.{and_both, neither, not_test}
-use Rattle.table.specs.declared.Verdict.TheVariants.{Accepted, Refused}
+use Rattle.table.specs.Verdicts.{Accepted, Refused, pass_over}
 use Rattle.table.specs.declared.index.Index.{Index}
 use Rattle.table.specs.declared.index.ProcedureEntry.{ProcedureEntry}
 use Rattle.table.specs.Format.{row_bytes, op_call}
 use Rattle.table.specs.Refusals.{bad_rules, unruled_pair, forbidden_call}
 use Rattle.table.specs.Rows.{row_count, row_at}
-use Rattle.table.specs.Verdicts.{pass_over}
 use Rattle.declarations.specs.Program.{procedure_in, code_of, code_pass}
 use Rattle.declarations.proofs.Passes.{refused-number, refused-row, let_through, pass_first, over_fine, FirstRow, over_first}
 use Rattle.policy.specs.Policy.{max_rules, rule_byte, first_caller, last_caller, first_called, last_called, zero_bytes, not_zero, bad_range, bad_rule, rule_fault, file_of, covers, rules_for, pair_fault, pairs_of, allowed_by, permits, call_fault}

@@ -1,14 +1,12 @@
 -- The rule file, rules.bin: which module may call which (document 02, paper 7): refusals 20 to 22. A file is a list of bytes; its rows have 16 bytes each.
 use Rattle.std.specs.Prelude.{ℕ, ◌+◌, ◌*◌, ◌/◌, ◌%◌, Bool, false, cond, not, ◌&&◌, ◌||◌, List, [], ◌∷◌, eqb, ltb, leb, length, get_or}
 use Rattle.laws.specs.Lists.{hits}
-use Rattle.table.specs.declared.Verdict.{Verdict}
-use Rattle.table.specs.declared.Verdict.TheVariants.{Accepted, Refused}
+use Rattle.table.specs.Verdicts.{Verdict, Accepted, Refused, pass_over, and_then}
 use Rattle.table.specs.declared.index.Index.{Index}
 use Rattle.table.specs.declared.index.ProcedureEntry.{ProcedureEntry}
 use Rattle.table.specs.Format.{row_bytes, max_modules, op_call}
 use Rattle.table.specs.Refusals.{bad_rules, unruled_pair, forbidden_call}
 use Rattle.table.specs.Rows.{row_count, row_at}
-use Rattle.table.specs.Verdicts.{pass_over, and_then}
 use Rattle.table.specs.Index.{index_of}
 use Rattle.declarations.specs.Program.{procedure_in, code_of, code_pass}
 

@@ -1,7 +1,6 @@
 -- What is printed.
 use Rattle.std.specs.Prelude.{ℕ, List, [], ◌++◌, codes, decimal, length, take, nat_le, if◌then◌else◌}
-use Rattle.table.specs.declared.Verdict.{Verdict}
-use Rattle.table.specs.declared.Verdict.TheVariants.{Accepted, Refused}
+use Rattle.table.specs.Verdicts.{Verdict, Accepted, Refused}
 
 -- the line of a verdict
 abbrev pub verdict_line : Verdict → List ℕ

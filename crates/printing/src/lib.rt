@@ -7,44 +7,36 @@ ghost use Rattle.std.specs.Io.KnownBytes.{Appends, Consumes, IsAtEnd, Keeps};
 ghost use Rattle.laws.specs.Numbers.{le};
 ghost use Rattle.printing.specs.Lines.{verdict_line, printed_of};
 ghost use Rattle.printing.specs.Parts.{first_number, first_part, Loses};
-ghost use Rattle.printing.specs.code.Reading.{Fits};
+ghost use Rattle.table.specs.Verdicts.{verdict_of};
 
 use std::io::{ErrorKind, Read, Write};
 use std::rt::Files;
 use std::{fs, io};
-use table::Verdict;
+use table::refusals::Refusal;
 
 // `accepted ROWS` or `refused N row R`, and the end of the line.
-pub fn print_verdict<W: Write>(out: &mut W, verdict: Verdict) -> io::Result<()>
-    ensures { OnOk result (Appends (W.contents out.old) (W.contents out.new) (verdict_line verdict)) }
+pub fn print_verdict<W: Write>(out: &mut W, verdict: Result<usize, Refusal>) -> io::Result<()>
+    ensures { OnOk result (Appends (W.contents out.old) (W.contents out.new) (verdict_line (verdict_of verdict))) }
 {
     match verdict {
-        Verdict::Accepted(rows) => writeln!(out, "accepted {rows}"),
-        Verdict::Refused(number, row) => writeln!(out, "refused {number} row {row}"),
+        Ok(rows) => writeln!(out, "accepted {rows}"),
+        Err(refusal) => writeln!(out, "{refusal}"),
     }
 }
 
 // The text of a run, which stands at the buffer's start, or the line of its refusal.
-pub fn print_run<W: Write>(out: &mut W, answer: Verdict, text: &[u8]) -> io::Result<()>
-    ensures { OnOk result (Appends (W.contents out.old) (W.contents out.new) (printed_of answer text.now)) }
+pub fn print_run<W: Write>(
+    out: &mut W,
+    answer: Result<usize, Refusal>,
+    text: &[u8],
+) -> io::Result<()>
+    ensures { OnOk result (Appends (W.contents out.old) (W.contents out.new) (printed_of (verdict_of answer) text.now)) }
 {
     match answer {
-        Verdict::Accepted(size) => {
-            if size <= text.len() {
-                out.write_all(&text[..size])
-            } else {
-                Ok(())
-            }
-        }
-        Verdict::Refused(number, row) => print_verdict(out, Verdict::Refused(number, row)),
+        Ok(size) if size <= text.len() => out.write_all(&text[..size]),
+        Ok(_) => Ok(()),
+        Err(_) => print_verdict(out, answer),
     }
-}
-
-// What reading gave: so many bytes, at the buffer's start; or no file of the name.
-#[derive(Clone, Copy)]
-pub enum Reading {
-    Bytes(usize),
-    Missing,
 }
 
 // How often a read that a signal interrupts is asked again.
@@ -54,28 +46,17 @@ const TRIES: usize = 1000;
 pub fn read_file<R: Files>(rt: &R, name: &str, room: &mut [u8]) -> io::Result<usize>
     ensures { IfOk result (λ n. n ≤ length room.old) }
 {
-    match read_if_there(rt, name, room)? {
-        Reading::Bytes(n) => Ok(n),
-        Reading::Missing => Ok(0),
-    }
+    Ok(read_if_there(rt, name, room)?.unwrap_or(0))
 }
 
-// The same, and a missing file is told.
-pub fn read_if_there<R: Files>(rt: &R, name: &str, room: &mut [u8]) -> io::Result<Reading>
-    ensures { IfOk result (λ got. Fits got (length room.old)) }
+// The same, and none where there is no file of the name.
+pub fn read_if_there<R: Files>(rt: &R, name: &str, room: &mut [u8]) -> io::Result<Option<usize>>
+    ensures { IfOk result (λ got. IfSome got (λ n. n ≤ length room.old)) }
 {
     match fs::open(rt, name) {
-        Ok(mut file) => {
-            let n = read_on(&mut file, room)?;
-            Ok(Reading::Bytes(n))
-        }
-        Err(e) => {
-            if e.kind() == ErrorKind::NotFound {
-                Ok(Reading::Missing)
-            } else {
-                Err(e)
-            }
-        }
+        Ok(mut file) => Ok(Some(read_on(&mut file, room)?)),
+        Err(e) if e.kind() == ErrorKind::NotFound => Ok(None),
+        Err(e) => Err(e),
     }
 }
 

@@ -1,19 +1,21 @@
 -- Laws of the tables by kind. What concerns one byte is computed once over its 256 values.
 use Prim.Native.Nat.{ℕ, zero, suc, ◌<◌, ◌≤◌}
-use mathlib.Core.Path.{◌≡◌, refl, subst}
-use mathlib.Core.Bool.{Bool, true, false, cond, not, ◌||◌, beq, false≢true}
+use mathlib.Core.Path.{◌≡◌, refl, subst, sym, ◌∙◌}
+use mathlib.Core.Bool.{Bool, true, false, cond, not, ◌&&◌, ◌||◌, beq, false≢true, or-true}
 use mathlib.Core.List.{List, [], ◌∷◌}
 use native.Mathlib.Omega.{arith}
 use native.Mathlib.Decide.{dec_lt}
-use borrow.Author.Tests.{eqb-true, ne_eqb, leb-true, leb-false}
+use borrow.Author.Tests.{eqb-true, ne_eqb, leb-true, leb-false, lt-ltb}
 use lib.Dec.{eqb, leb, ltb}
 use lib.ListN.{get_or, get_or-eq_default}
 use Rattle.laws.specs.Lists.{every, member, none}
 use Rattle.laws.proofs.Lists.{every-at}
+use Rattle.laws.proofs.Tests.{and_both}
 use Rattle.table.specs.Format.{past_sorts, past_opcodes}
 use Rattle.table.specs.declared.Row.{Row}
 use Rattle.rows.specs.declared.Above.{Above}
-use Rattle.rows.specs.Rows.{may_follow, limits, owned, uses, use_of, used_with, unused, Use, count_below, count_of, row_fault, too_many}
+use Rattle.rows.specs.declared.Kind.{Kind}
+use Rattle.rows.specs.Rows.{may_follow, limits, owned, uses, use_of, used_with, unused, Use, count_below, below_row, count_of, row_fault, too_many}
 use Rattle.rows.proofs.Faults.{faultless}
 
 beq_eq : (a b : Bool) → beq a b ≡ true → a ≡ b
@@ -27,23 +29,16 @@ pub agree : (f g : ℕ → Bool) (n x : ℕ) → every (λ (x : ℕ). beq (f x) 
 agree f g n x e h = beq_eq (f x) (g x) (every-at (λ (x : ℕ). beq (f x) (g x)) n x e h)
 
 -- a list with an entry for each kind, outside the kinds 1 to 7
-pub no_kind : {A : Type 0} (d a b c e f g h : A) (k : ℕ)
-    → (k ≡ 1 → ⊥) → (k ≡ 2 → ⊥) → (k ≡ 3 → ⊥) → (k ≡ 4 → ⊥) → (k ≡ 5 → ⊥) → (k ≡ 6 → ⊥) → (k ≡ 7 → ⊥)
-    → get_or (d ∷ a ∷ b ∷ c ∷ e ∷ f ∷ g ∷ h ∷ []) k d ≡ d
-no_kind d a b c e f g h zero n1 n2 n3 n4 n5 n6 n7 = refl
-no_kind d a b c e f g h (suc zero) n1 n2 n3 n4 n5 n6 n7 = absurd (n1 refl)
-no_kind d a b c e f g h (suc (suc zero)) n1 n2 n3 n4 n5 n6 n7 = absurd (n2 refl)
-no_kind d a b c e f g h (suc (suc (suc zero))) n1 n2 n3 n4 n5 n6 n7 = absurd (n3 refl)
-no_kind d a b c e f g h (suc (suc (suc (suc zero)))) n1 n2 n3 n4 n5 n6 n7 = absurd (n4 refl)
-no_kind d a b c e f g h (suc (suc (suc (suc (suc zero))))) n1 n2 n3 n4 n5 n6 n7 = absurd (n5 refl)
-no_kind d a b c e f g h (suc (suc (suc (suc (suc (suc zero)))))) n1 n2 n3 n4 n5 n6 n7 = absurd (n6 refl)
-no_kind d a b c e f g h (suc (suc (suc (suc (suc (suc (suc zero))))))) n1 n2 n3 n4 n5 n6 n7 = absurd (n7 refl)
-no_kind d a b c e f g h (suc (suc (suc (suc (suc (suc (suc (suc k)))))))) n1 n2 n3 n4 n5 n6 n7 = refl
+pub no_kind : {A : Type 0} (d a b c e f g h : A) (k : ℕ) → (0 < k → 7 < k) → get_or (d ∷ a ∷ b ∷ c ∷ e ∷ f ∷ g ∷ h ∷ []) k d ≡ d
+no_kind d a b c e f g h zero out = refl
+no_kind d a b c e f g h (suc k) out = get_or-eq_default (d ∷ a ∷ b ∷ c ∷ e ∷ f ∷ g ∷ h ∷ []) d {n = suc k} (out (omega arith))
 
 -- a row of no kind changes no count
-pub count_kept : (k kind n : ℕ) → (kind ≡ k → ⊥) → get_or owned kind [] ≡ [] → count_below k kind n ≡ n
-unfolding count_below member
-count_kept k kind n ne e = rw (ne_eqb kind k ne, e)
+pub below_no_kind : (s : Above) (row : Row) → (0 < row.kind → 7 < row.kind) → below_row s row ≡ record s { kind = row.kind }
+unfolding below_row count_below owned member
+below_no_kind s row out =
+    let e : get_or owned row.kind [] ≡ [] = no_kind [] [] (3 ∷ []) [] (5 ∷ 6 ∷ 7 ∷ []) [] [] [] row.kind out in
+    rw (ne_eqb row.kind 1 (λ q. omega arith), ne_eqb row.kind 2 (λ q. omega arith), ne_eqb row.kind 3 (λ q. omega arith), ne_eqb row.kind 4 (λ q. omega arith), ne_eqb row.kind 5 (λ q. omega arith), ne_eqb row.kind 6 (λ q. omega arith), ne_eqb row.kind 7 (λ q. omega arith)) (simp e)
 
 -- the kinds that a row may follow, as the code has them: from, to
 abbrev pub froms : List ℕ
@@ -77,29 +72,85 @@ pub no_limit : (k : ℕ) → 7 < k → get_or limits k 0 ≡ 0
 unfolding limits
 no_limit k h = get_or-eq_default limits 0 {n = k} h
 
--- how many values A has, as the code has them
-abbrev pub values : List ℕ
-values = 0 ∷ 2 ∷ 0 ∷ 2 ∷ 2 ∷ past_sorts ∷ past_sorts ∷ past_opcodes ∷ []
-
-values_agree : every (λ (k : ℕ). eqb (use_of k).values (get_or values k 0)) 8 ≡ true
-unfolding every uses
-values_agree = refl
-
-pub value_count : (k : ℕ) → k < 8 → (use_of k).values ≡ get_or values k 0
-value_count k h = eqb-true (use_of k).values (get_or values k 0) (every-at (λ (k : ℕ). eqb (use_of k).values (get_or values k 0)) 8 k values_agree h)
-
 pub no_use : (k : ℕ) → 7 < k → use_of k ≡ unused
 unfolding uses
 no_use k h = get_or-eq_default uses unused {n = k} h
 
--- which values of A use B, C and D, as the code has them
-pub operand : (a : ℕ) → a < 256 → used_with past_opcodes a (use_of 7).with_b ≡ cond (ltb a 2) false (cond (leb a 5) true (cond (ltb a 8) false (cond (eqb a 16) false (not (eqb a 20)))))
-unfolding every uses used_with member none
-operand a h = agree (λ (a : ℕ). used_with past_opcodes a (use_of 7).with_b) (λ (a : ℕ). cond (ltb a 2) false (cond (leb a 5) true (cond (ltb a 8) false (cond (eqb a 16) false (not (eqb a 20)))))) 256 a refl h
+-- what is asked of the rows of each kind, as the code has it
+abbrev pub no_rows : Kind
+no_rows = record { after = 1; until = 0; limit = 0; values = 0 }
 
-pub typed : (a : ℕ) → a < 256 → used_with past_sorts a (use_of 5).with_b ≡ cond (eqb a 1) true (cond (eqb a 4) false (leb 3 a))
+abbrev pub kinds : List Kind
+kinds =
+    no_rows
+    ∷ record { after = 0; until = 7; limit = 16; values = 2 }
+    ∷ record { after = 1; until = 3; limit = 64; values = 0 }
+    ∷ record { after = 2; until = 3; limit = 8; values = 2 }
+    ∷ record { after = 1; until = 7; limit = 128; values = 2 }
+    ∷ record { after = 4; until = 5; limit = 16; values = past_sorts }
+    ∷ record { after = 4; until = 6; limit = 4; values = past_sorts }
+    ∷ record { after = 4; until = 7; limit = 256; values = past_opcodes }
+    ∷ []
+
+-- that it is what the rules ask
+pub record Asks (k : ℕ) (kind : Kind) : Type 0 where
+  pub follows : (x : ℕ) → x < 256 → (ltb x kind.after || ltb kind.until x) ≡ not (member x (get_or may_follow k []))
+  pub limit : kind.limit ≡ get_or limits k 0
+  pub values : kind.values ≡ (use_of k).values
+
+asks : ℕ → Bool
+asks k =
+    eqb (get_or kinds k no_rows).after (get_or froms k 0) && eqb (get_or kinds k no_rows).until (get_or tos k 0)
+    && eqb (get_or kinds k no_rows).limit (get_or limits k 0) && eqb (get_or kinds k no_rows).values (use_of k).values
+
+all-ask : every asks 8 ≡ true
+unfolding every asks limits uses
+all-ask = refl
+
+or_cond : (a b : Bool) → (a || b) ≡ cond a true b
+or_cond true b = refl
+or_cond false b = refl
+
+pub kind_asks : (k : ℕ) → Asks k (get_or kinds k no_rows)
+unfolding asks
+kind_asks k = go (dec_lt k 8)
+  where
+    within : (k : ℕ) → k < 8 → Asks k (get_or kinds k no_rows)
+    within k h =
+        let v = and_both _ _ (every-at asks 8 k all-ask h) in
+        let l = and_both _ _ v.0 in
+        let f = and_both _ _ l.0 in
+        let a : (get_or kinds k no_rows).after ≡ get_or froms k 0 = eqb-true _ _ f.0 in
+        let u : (get_or kinds k no_rows).until ≡ get_or tos k 0 = eqb-true _ _ f.1 in
+        record {
+          follows = λ x hx. rw (a, u) (or_cond (ltb x (get_or froms k 0)) (ltb (get_or tos k 0) x) ∙ sym (follow x k hx h));
+          limit = eqb-true _ _ l.1;
+          values = eqb-true _ _ v.1;
+        }
+
+    past : 7 < k → (kind : Kind) → kind ≡ no_rows → Asks k kind
+    past h kind e = record {
+      follows = λ x hx. rw (e, follow-none x k h) (outside_none x);
+      limit = rw (e, no_limit k h);
+      values = rw (e, no_use k h);
+    }
+      where
+        outside_none : (x : ℕ) → (ltb x 1 || ltb 0 x) ≡ true
+        outside_none zero = refl
+        outside_none (suc x) = rw (lt-ltb 0 (suc x) (omega arith)) (or-true _)
+
+    go : Dec (k < 8) → Asks k (get_or kinds k no_rows)
+    go (yes h) = within k h
+    go (no h) = past (omega arith) (get_or kinds k no_rows) (get_or-eq_default kinds no_rows {n = k} (omega arith))
+
+-- which values of A use B, C and D, as the code has them
+pub operand : (a : ℕ) → a < 256 → used_with past_opcodes a (use_of 7).with_b ≡ not (member a (0 ∷ 1 ∷ 6 ∷ 7 ∷ 16 ∷ 20 ∷ []))
 unfolding every uses used_with member none
-typed a h = agree (λ (a : ℕ). used_with past_sorts a (use_of 5).with_b) (λ (a : ℕ). cond (eqb a 1) true (cond (eqb a 4) false (leb 3 a))) 256 a refl h
+operand a h = agree (λ (a : ℕ). used_with past_opcodes a (use_of 7).with_b) (λ (a : ℕ). not (member a (0 ∷ 1 ∷ 6 ∷ 7 ∷ 16 ∷ 20 ∷ []))) 256 a refl h
+
+pub typed : (a : ℕ) → a < 256 → used_with past_sorts a (use_of 5).with_b ≡ not (member a (0 ∷ 2 ∷ 4 ∷ []))
+unfolding every uses used_with member none
+typed a h = agree (λ (a : ℕ). used_with past_sorts a (use_of 5).with_b) (λ (a : ℕ). not (member a (0 ∷ 2 ∷ 4 ∷ []))) 256 a refl h
 
 pub field-type : (a : ℕ) → a < 256 → used_with 2 a (use_of 3).with_b ≡ not (eqb a 0)
 unfolding every uses used_with member none
@@ -113,9 +164,9 @@ pub local-mark : (a : ℕ) → a < 256 → used_with past_sorts a (use_of 5).wit
 unfolding every uses used_with member none
 local-mark a h = agree (λ (a : ℕ). used_with past_sorts a (use_of 5).with_c) (λ (a : ℕ). true) 256 a refl h
 
-pub constant : (a : ℕ) → a < 256 → used_with past_opcodes a (use_of 7).with_d ≡ cond (eqb a 1) true (leb past_opcodes a)
+pub constant : (a : ℕ) → a < 256 → used_with past_opcodes a (use_of 7).with_d ≡ (eqb a 1 || leb past_opcodes a)
 unfolding every uses used_with member none
-constant a h = agree (λ (a : ℕ). used_with past_opcodes a (use_of 7).with_d) (λ (a : ℕ). cond (eqb a 1) true (leb past_opcodes a)) 256 a refl h
+constant a h = agree (λ (a : ℕ). used_with past_opcodes a (use_of 7).with_d) (λ (a : ℕ). eqb a 1 || leb past_opcodes a) 256 a refl h
 
 -- what no value of A uses is not used
 pub never : (n a : ℕ) (l : List ℕ) → l ≡ [] → used_with n a l ≡ false
@@ -152,6 +203,15 @@ module _ (k : ℕ) where
   pub no_d : (k ≡ 7 → ⊥) → (use_of k).with_d ≡ []
   unfolding every uses member none
   no_d n7 = unused_but (λ (u : Use). u.with_d) (7 ∷ []) refl refl k (rw (ne_eqb k 7 n7))
+
+-- locals and results have sorts
+pub sorted : (k a : ℕ) → 5 ≤ k → k ≤ 6 → used_with (use_of k).values a (use_of k).with_b ≡ used_with past_sorts a (use_of 5).with_b
+unfolding uses
+sorted k a lo hi = go (dec_lt k 6)
+  where
+    go : Dec (k < 6) → used_with (use_of k).values a (use_of k).with_b ≡ used_with past_sorts a (use_of 5).with_b
+    go (yes h) = let e : k ≡ 5 = omega arith in rw e
+    go (no h) = let e : k ≡ 6 = omega arith in rw e
 
 -- the count of a row's own kind
 pub own-count : (s : Above) (kind k : ℕ) → kind ≡ k → count_of s kind < 65535 → count_of s k < 65535

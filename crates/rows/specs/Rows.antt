@@ -2,11 +2,9 @@
 use Rattle.std.specs.Prelude.{ℕ, zero, suc, ◌+◌, ◌*◌, ◌%◌, ◌≡◌, Bool, false, cond, not, ◌&&◌, ◌||◌, List, [], ◌∷◌, eqb, leb, ltb, length, get_or}
 use Rattle.laws.specs.Lists.{member, none}
 use Rattle.table.specs.declared.Row.{Row}
-use Rattle.table.specs.declared.Verdict.{Verdict}
-use Rattle.table.specs.declared.Verdict.TheVariants.{Accepted, Refused}
+use Rattle.table.specs.Verdicts.{Verdict, Accepted, Refused, pass_over, and_then}
 use Rattle.table.specs.Format.{row_bytes, module_kind, type_kind, field_kind, procedure_kind, local_kind, result_kind, instruction_kind, number_sort, op_op, max_rows, max_modules, max_types, max_fields, max_procedures, max_locals, max_results, max_instructions, past_sorts, typed_sorts, past_opcodes, past_ops}
 use Rattle.table.specs.Rows.{row_count, row_at}
-use Rattle.table.specs.Verdicts.{pass_over, and_then}
 use Rattle.table.specs.Flags.{is_trusted, is_guarded, is_parameter}
 use Rattle.table.specs.Refusals.{bad_length, bad_place, over_limit, dirty_byte, wrong_value, wrong_guard}
 use Rattle.rows.specs.declared.Above.{Above}

@@ -1,11 +1,14 @@
 // The length pass and the rows pass: refusals 1 to 4, 18 and 19.
 #![tactic(auto)]
 
-ghost use Rattle.std.specs.Prelude.{◌≡◌, ◌&&◌, leb, ◌<◌};
+ghost use Rattle.std.specs.Prelude.{◌≡◌, ℕ, not, ◌&&◌, ◌||◌, [], leb, ltb, ◌<◌, get_or};
+ghost use Rattle.laws.specs.Lists.{member};
 ghost use Rattle.table.specs.Format.{local_kind, instruction_kind, past_sorts, past_opcodes};
-ghost use Rattle.rows.specs.Rows.{length_of, rows_of, form_of, count_of, below_row, misplaced, too_many, uses_a, uses_b, uses_c, uses_d, dirty, bad_c, late_parameter, bad_op, unused_byte, bad_value, bad_guard, row_fault, use_of, used_with};
+ghost use Rattle.table.specs.Verdicts.{verdict_of, fault_of};
+ghost use Rattle.rows.specs.Rows.{may_follow, limits, length_of, rows_of, form_of, count_of, below_row, misplaced, too_many, uses_a, uses_b, uses_c, uses_d, dirty, bad_c, late_parameter, bad_op, unused_byte, bad_value, bad_guard, row_fault, use_of, used_with};
 
-use table::{Row, Verdict, format, refusals};
+use table::refusals::{Reason, Refusal};
+use table::{Row, format};
 
 // What stands above a row: the kind of the row right above, 0 for none; the number of rows of each kind in the same owner; whether the
 // module is trusted; whether some local of the procedure is no parameter.
@@ -23,23 +26,85 @@ pub struct Above {
     pub other: bool,
 }
 
-// By kind: a row of this kind may follow the kinds from the first list's entry to the second's; at most so many rows; so many values of A.
-const FOLLOWS_FROM: [u8; 8] = [1, 0, 1, 2, 1, 4, 4, 4];
+// What is asked of the rows of a kind: they follow rows of the kinds from `after` to `until`; there are at most `limit` of them in one
+// owner; A has `values` values, from 0 on, or no use at 0.
+#[derive(Clone, Copy)]
+struct Kind {
+    after: u8,
+    until: u8,
+    limit: u16,
+    values: u8,
+}
 
-const FOLLOWS_TO: [u8; 8] = [0, 7, 3, 3, 7, 5, 6, 7];
+const NO_KIND: Kind = Kind {
+    after: 1,
+    until: 0,
+    limit: 0,
+    values: 0,
+};
 
-const LIMITS: [u16; 8] = [0, 16, 64, 8, 128, 16, 4, 256];
-
-const VALUES: [u8; 8] = [
-    0,
-    2,
-    0,
-    2,
-    2,
-    format::PAST_SORTS,
-    format::PAST_SORTS,
-    format::PAST_OPCODES,
+// By the number of the kind.
+const KINDS: [Kind; 8] = [
+    NO_KIND,
+    // A module.
+    Kind {
+        after: 0,
+        until: 7,
+        limit: 16,
+        values: 2,
+    },
+    // A type.
+    Kind {
+        after: 1,
+        until: 3,
+        limit: 64,
+        values: 0,
+    },
+    // A field.
+    Kind {
+        after: 2,
+        until: 3,
+        limit: 8,
+        values: 2,
+    },
+    // A procedure.
+    Kind {
+        after: 1,
+        until: 7,
+        limit: 128,
+        values: 2,
+    },
+    // A local.
+    Kind {
+        after: 4,
+        until: 5,
+        limit: 16,
+        values: format::PAST_SORTS,
+    },
+    // A result.
+    Kind {
+        after: 4,
+        until: 6,
+        limit: 4,
+        values: format::PAST_SORTS,
+    },
+    // An instruction.
+    Kind {
+        after: 4,
+        until: 7,
+        limit: 256,
+        values: format::PAST_OPCODES,
+    },
 ];
+
+// What is asked of a row of this kind.
+fn kind_of(row: Row) -> Kind
+    ensures follows { (kind : ℕ) → kind < 256 → (ltb kind result.after || ltb result.until kind) ≡ not (member kind (get_or may_follow row.kind [])) }
+    ensures limit { result.limit ≡ get_or limits row.kind 0 }
+    ensures values { result.values ≡ (use_of row.kind).values }
+{
+    KINDS.get(row.kind as usize).copied().unwrap_or(NO_KIND)
+}
 
 impl Above {
     pub const NOTHING: Above = Above {
@@ -56,6 +121,7 @@ impl Above {
     };
 
     // The number of rows of a kind above, in the same owner.
+    #[tactic(auto, unfolding(crate::specs::Rows::count_of))]
     fn count_of(self, kind: u8) -> u16
         ensures { result ≡ count_of self kind }
     {
@@ -76,325 +142,223 @@ impl Above {
         requires { count_of self row.kind < 65535 }
         ensures { result ≡ below_row self row }
     {
-        let kind = row.kind;
-        self.kind = kind;
-        match kind {
+        self.kind = row.kind;
+        match row.kind {
             format::MODULE => {
                 self.modules += 1;
                 self.trusted = row.a == 1;
-                self
             }
             format::TYPE => {
                 self.types += 1;
                 self.fields = 0;
-                self
             }
-            format::FIELD => {
-                self.fields += 1;
-                self
-            }
+            format::FIELD => self.fields += 1,
             format::PROCEDURE => {
                 self.procedures += 1;
                 self.locals = 0;
                 self.results = 0;
                 self.instructions = 0;
                 self.other = false;
-                self
             }
             format::LOCAL => {
                 self.locals += 1;
-                if row.c != 1 {
-                    self.other = true;
-                }
-                self
+                self.other = row.c != 1 || self.other;
             }
-            format::RESULT => {
-                self.results += 1;
-                self
-            }
-            format::INSTRUCTION => {
-                self.instructions += 1;
-                self
-            }
-            _ => self,
+            format::RESULT => self.results += 1,
+            format::INSTRUCTION => self.instructions += 1,
+            _ => {}
         }
+        self
     }
 
     // 2: the kind is unknown, or not allowed after the row above.
     fn misplaces(self, row: Row) -> bool
         ensures { result ≡ misplaced self row }
     {
-        let kind = row.kind;
-        if 7 < kind {
-            return true;
-        }
-        let k = kind as usize;
-        if self.kind < FOLLOWS_FROM[k] {
-            return true;
-        }
-        FOLLOWS_TO[k] < self.kind
+        let kind = kind_of(row);
+        self.kind < kind.after || kind.until < self.kind
     }
 
     // 3: one row too many of its kind.
     fn overfills(self, row: Row) -> bool
         ensures { result ≡ too_many self row }
     {
-        let kind = row.kind;
-        if 7 < kind {
-            return true;
-        }
-        LIMITS[kind as usize] <= self.count_of(kind)
+        kind_of(row).limit <= self.count_of(row.kind)
     }
 
     // 18: a parameter after another local.
     fn late_parameter(self, row: Row) -> bool
         ensures { result ≡ late_parameter self row }
     {
-        if row.kind == format::LOCAL {
-            if row.c == 1 {
-                return self.other;
-            }
-        }
-        false
+        row.kind == format::LOCAL && row.c == 1 && self.other
     }
 
     // 18: a value not allowed.
+    #[tactic(auto, unfolding(crate::specs::Rows::bad_value))]
     fn bad_value(self, row: Row) -> bool
         ensures { result ≡ bad_value self row }
     {
-        if bad_a(row) {
-            return true;
-        }
-        if bad_c(row) {
-            return true;
-        }
-        if self.late_parameter(row) {
-            return true;
-        }
-        bad_op(row)
+        bad_a(row) || bad_c(row) || self.late_parameter(row) || bad_op(row)
     }
 
     // 19: a guard on anything but a number field of a trusted module.
+    #[tactic(auto, unfolding(crate::specs::Rows::bad_guard))]
     fn bad_guard(self, row: Row) -> bool
         ensures { result ≡ bad_guard self row }
     {
-        if row.kind == format::FIELD {
-            if row.c == 1 {
-                if row.a == format::NUMBER {
-                    return !self.trusted;
-                }
-                return true;
-            }
-        }
-        false
+        row.kind == format::FIELD && row.c == 1 && !(row.a == format::NUMBER && self.trusted)
     }
 
-    // The number of the fault of a row below, or 0.
-    pub fn row_fault(self, row: Row) -> u8
-        ensures { result ≡ row_fault self row }
+    // The fault of a row below.
+    #[tactic(auto, unfolding(crate::specs::Rows::row_fault))]
+    pub fn row_fault(self, row: Row) -> Option<Reason>
+        ensures { fault_of result ≡ row_fault self row }
     {
         if self.misplaces(row) {
-            return refusals::BAD_PLACE;
+            Some(Reason::BadPlace)
+        } else if self.overfills(row) {
+            Some(Reason::OverLimit)
+        } else if unused_byte(row) {
+            Some(Reason::DirtyByte)
+        } else if self.bad_value(row) {
+            Some(Reason::WrongValue)
+        } else if self.bad_guard(row) {
+            Some(Reason::WrongGuard)
+        } else {
+            None
         }
-        if self.overfills(row) {
-            return refusals::OVER_LIMIT;
-        }
-        if unused_byte(row) {
-            return refusals::DIRTY_BYTE;
-        }
-        if self.bad_value(row) {
-            return refusals::WRONG_VALUE;
-        }
-        if self.bad_guard(row) {
-            return refusals::WRONG_GUARD;
-        }
-        0
     }
-}
-
-// How many values A may have in a row of a kind, from 0 on; 0 where A has no use.
-fn values_of(kind: u8) -> u8
-    ensures { result ≡ (use_of kind).values }
-{
-    if 7 < kind {
-        return 0;
-    }
-    VALUES[kind as usize]
 }
 
 // Whether an opcode has an operand; one that is not allowed counts as having one.
 fn has_operand(opcode: u8) -> bool
     ensures { result ≡ used_with past_opcodes opcode (use_of instruction_kind).with_b }
 {
-    if opcode < format::MV_LOC {
-        return false;
-    }
-    if opcode <= format::BORROW_LOC {
-        return true;
-    }
-    if opcode < format::BORROW_FLD {
-        return false;
-    }
-    if opcode == format::RET {
-        return false;
-    }
-    opcode != format::FREEZE
+    !matches!(
+        opcode,
+        format::POP
+            | format::LOAD_CONST
+            | format::READ_REF
+            | format::WRITE_REF
+            | format::RET
+            | format::FREEZE
+    )
 }
 
 // Whether a value of this sort has a type; a sort that is not allowed counts as having one.
 fn has_type(sort: u8) -> bool
     ensures { result ≡ used_with past_sorts sort (use_of local_kind).with_b }
 {
-    if sort == format::RECORD {
-        return true;
-    }
-    if sort == format::NUMBER_READER {
-        return false;
-    }
-    format::RECORD_REFERENCE <= sort
+    !matches!(
+        sort,
+        format::NUMBER | format::NUMBER_REFERENCE | format::NUMBER_READER
+    )
 }
 
-// Whether a row uses B.
+// Whether a row uses A, B, C and D.
+#[tactic(auto, unfolding(crate::specs::Rows::uses_a))]
+fn uses_a(row: Row) -> bool
+    ensures { result ≡ uses_a row }
+{
+    0 < kind_of(row).values
+}
+
 fn uses_b(row: Row) -> bool
     ensures { result ≡ uses_b row }
 {
-    let kind = row.kind;
-    match kind {
+    match row.kind {
         format::FIELD => row.a != format::NUMBER,
-        format::LOCAL => has_type(row.a),
-        format::RESULT => has_type(row.a),
+        format::LOCAL | format::RESULT => has_type(row.a),
         format::INSTRUCTION => has_operand(row.a),
         _ => false,
     }
 }
 
-// Whether a row uses C.
 fn uses_c(row: Row) -> bool
     ensures { result ≡ uses_c row }
 {
-    let kind = row.kind;
-    match kind {
-        format::FIELD => true,
-        format::LOCAL => true,
-        _ => false,
-    }
+    matches!(row.kind, format::FIELD | format::LOCAL)
 }
 
-// Whether a row uses D.
 fn uses_d(row: Row) -> bool
     ensures { result ≡ uses_d row }
 {
-    if row.kind != format::INSTRUCTION {
-        return false;
-    }
-    if row.a == format::LOAD_CONST {
-        return true;
-    }
-    format::PAST_OPCODES <= row.a
+    row.kind == format::INSTRUCTION
+        && (row.a == format::LOAD_CONST || format::PAST_OPCODES <= row.a)
 }
 
 // A part of a row that has no use and is not zero.
 fn is_dirty(used: bool, x: u64) -> bool
     ensures { result ≡ dirty used x }
 {
-    if used {
-        return false;
-    }
-    x != 0
+    !used && x != 0
 }
 
 // 4: an unused byte is not zero.
+#[tactic(auto, unfolding(crate::specs::Rows::unused_byte))]
 fn unused_byte(row: Row) -> bool
     ensures { result ≡ unused_byte row }
 {
-    if is_dirty(0 < values_of(row.kind), row.a as u64) {
-        return true;
-    }
-    if is_dirty(uses_b(row), row.b as u64) {
-        return true;
-    }
-    if is_dirty(uses_c(row), row.c as u64) {
-        return true;
-    }
-    is_dirty(uses_d(row), row.d)
+    is_dirty(uses_a(row), u64::from(row.a))
+        || is_dirty(uses_b(row), u64::from(row.b))
+        || is_dirty(uses_c(row), u64::from(row.c))
+        || is_dirty(uses_d(row), row.d)
 }
 
 // 18: A past its values.
 fn bad_a(row: Row) -> bool
     ensures { result ≡ (uses_a row && leb (use_of row.kind).values row.a) }
 {
-    let values = values_of(row.kind);
-    if values == 0 {
-        return false;
-    }
-    values <= row.a
+    uses_a(row) && kind_of(row).values <= row.a
 }
 
 // 18: a mark in C that is neither 0 nor 1.
 fn bad_c(row: Row) -> bool
     ensures { result ≡ bad_c row }
 {
-    if uses_c(row) {
-        return 1 < row.c;
-    }
-    false
+    uses_c(row) && 1 < row.c
 }
 
 // 18: an Op over 3.
 fn bad_op(row: Row) -> bool
     ensures { result ≡ bad_op row }
 {
-    if row.kind == format::INSTRUCTION {
-        if row.a == format::OP {
-            return format::PAST_OPS <= row.b;
-        }
-    }
-    false
+    row.kind == format::INSTRUCTION && row.a == format::OP && format::PAST_OPS <= row.b
 }
 
-// The number of the length pass: no bytes, a row that is not whole, or too many rows.
-pub fn length_pass(table: &[u8]) -> Verdict
-    ensures { result ≡ length_of table.now }
+// The length pass: no bytes, a row that is not whole, or too many rows.
+#[tactic(auto, unfolding(crate::specs::Rows::length_of))]
+pub fn length_pass(table: &[u8]) -> Result<usize, Refusal>
+    ensures { verdict_of result ≡ length_of table.now }
 {
     let n = table.len();
-    if n == 0 {
-        return Verdict::Refused(refusals::BAD_LENGTH, 0);
+    if n == 0 || n % format::ROW_BYTES != 0 || format::ROW_BYTES * format::MAX_ROWS < n {
+        return Err(Reason::BadLength.at(0));
     }
-    if n % format::ROW_BYTES != 0 {
-        return Verdict::Refused(refusals::BAD_LENGTH, 0); // the last row is not whole
-    }
-    if format::ROW_BYTES * format::MAX_ROWS < n {
-        return Verdict::Refused(refusals::BAD_LENGTH, 0);
-    }
-    Verdict::Accepted(n / format::ROW_BYTES)
+    Ok(n / format::ROW_BYTES)
 }
 
 // The rows pass.
-pub fn rows_pass(table: &[u8]) -> Verdict
-    ensures { result ≡ rows_of table.now }
+pub fn rows_pass(table: &[u8]) -> Result<usize, Refusal>
+    ensures { verdict_of result ≡ rows_of table.now }
 {
     let n = table.len() / format::ROW_BYTES;
     let mut above = Above::NOTHING;
-    let mut i = 0;
-    while i < n {
+    for i in 0..n {
         let row = table::row_at(table, i);
-        let fault = above.row_fault(row);
-        if fault != 0 {
-            return Verdict::Refused(fault, i);
+        if let Some(reason) = above.row_fault(row) {
+            return Err(reason.at(i));
         }
         above = above.below(row);
-        i += 1;
     }
-    Verdict::Accepted(n)
+    Ok(n)
 }
 
 // Length, then rows.
-pub fn form_pass(table: &[u8]) -> Verdict
-    ensures { result ≡ form_of table.now }
+#[tactic(auto, unfolding(crate::specs::Rows::form_of))]
+pub fn form_pass(table: &[u8]) -> Result<usize, Refusal>
+    ensures { verdict_of result ≡ form_of table.now }
 {
-    let length = length_pass(table);
-    match length {
-        Verdict::Accepted(_) => rows_pass(table),
-        Verdict::Refused(number, row) => Verdict::Refused(number, row),
-    }
+    length_pass(table)?;
+    rows_pass(table)
 }

@@ -4,11 +4,12 @@
 
 ghost use Rattle.std.specs.Prelude.{OnOk, replicate};
 ghost use Rattle.std.specs.Io.KnownBytes.{Appends};
-ghost use Rattle.semantics.specs.Run.{min_text, run_of};
+ghost use Rattle.core.specs.Option.{option_copied};
+ghost use Rattle.semantics.specs.Run.{min_text};
+ghost use Rattle.running.specs.code.Lists.{run_by};
 ghost use Rattle.printing.specs.Lines.{printed_of};
 
 use anyhow::Context;
-use printing::Reading;
 use std::io;
 use std::io::Write;
 use std::rt::Files;
@@ -34,8 +35,8 @@ fn run_files(rt: &(impl Files + Print), table: &[u8], list: &[u8]) -> anyhow::Re
     let got = printing::read_if_there(rt, "rules.bin", &mut rules).context("rules.bin")?;
     let mut out = io::writer(rt);
     match got {
-        Reading::Bytes(m) => run_under(&mut out, table, list, &rules[..m], 1),
-        Reading::Missing => run_under(&mut out, table, list, &rules, 0),
+        Some(m) => run_under(&mut out, table, list, Some(&rules[..m])),
+        None => run_under(&mut out, table, list, None),
     }
     .context("standard output")
 }
@@ -45,13 +46,12 @@ fn run_under<W: Write>(
     out: &mut W,
     table: &[u8],
     list: &[u8],
-    rules: &[u8],
-    has: u64,
+    rules: Option<&[u8]>,
 ) -> io::Result<()>
-    ensures { let ran = run_of has rules.now table.now list.now (replicate min_text 0) in
+    ensures { let ran = run_by (option_copied rules) table.now list.now (replicate min_text 0) in
         OnOk result (Appends (W.contents out.old) (W.contents out.new) (printed_of ran.answer ran.buffer)) }
 {
     let mut text = [0u8; running::MIN_TEXT];
-    let answer = running::run_list(table, list, rules, has, &mut text);
+    let answer = running::run_list(table, list, rules, &mut text);
     printing::print_run(out, answer, &text)
 }

@@ -7,9 +7,7 @@ use mathlib.Core.List.{List, [], ◌∷◌, ◌++◌}
 use mathlib.Core.Logic.{◌↔◌}
 use lib.Dec.{ltb}
 use lib.ListN.{length, drop}
-use Rattle.table.specs.declared.Verdict.{Verdict}
-use Rattle.table.specs.declared.Verdict.TheVariants.{Accepted, Refused}
-use Rattle.table.specs.Verdicts.{and_then}
+use Rattle.table.specs.Verdicts.{Verdict, Accepted, Refused, and_then}
 use Rattle.table.specs.Index.{index_of}
 use Rattle.judging.specs.Judging.{judge_under}
 use Rattle.judging.proofs.Under.{under_accepts}

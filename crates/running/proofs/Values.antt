@@ -7,12 +7,10 @@ use native.Mathlib.Omega.{arith}
 use lib.Dec.{eqb, ltb}
 use lib.ListN.{length}
 use borrow.Author.Tests.{ltb-false}
-use Rattle.table.specs.declared.Verdict.{Verdict}
-use Rattle.table.specs.declared.Verdict.TheVariants.{Accepted, Refused}
+use Rattle.table.specs.Verdicts.{Verdict, Accepted, Refused, and_then, pass_over, value_of}
 use Rattle.table.specs.declared.index.Index.{Index}
 use Rattle.table.specs.Format.{row_bytes}
 use Rattle.table.specs.Rows.{row_count}
-use Rattle.table.specs.Verdicts.{and_then, pass_over, value_of}
 use Rattle.table.specs.Index.{index_of}
 use Rattle.judging.specs.Judging.{judge_under}
 use Rattle.judging.proofs.Values.{first_value}

@@ -3,21 +3,21 @@
 #![tactic(auto)]
 
 ghost use Rattle.std.specs.Prelude.{◌≡◌};
-ghost use Rattle.semantics.specs.Run.{run_of};
+ghost use Rattle.core.specs.Option.{option_copied};
+ghost use Rattle.table.specs.Verdicts.{verdict_of};
 ghost use Rattle.text.specs.code.Placing.{placed};
 ghost use Rattle.state.specs.code.Cells.{cells_of};
-ghost use Rattle.running.specs.code.Lists.{results_in, end_line, line_of, text_in};
+ghost use Rattle.running.specs.code.Lists.{results_in, end_line, line_of, text_in, run_by};
 
 use interpreter::Ran;
 use state::frames::State;
 use state::stops;
 use table::index::Index;
-use table::{Verdict, format};
+use table::format;
+use table::refusals::{Reason, Refusal};
 
-// The shortest buffer for a text, and the number of the refusal of a shorter one.
+// The shortest buffer for a text.
 pub const MIN_TEXT: usize = 65536;
-
-const SHORT_TEXT: u8 = 17;
 
 // The results of a call that is done: the k top operands of its first frame, at most four.
 fn results_of(s: State, cells: &[u64], k: usize) -> [u64; 4]
@@ -102,22 +102,21 @@ fn run_calls(table: &[u8], list: &[u8], index: Index, text: &mut [u8]) -> usize
     store_text::put_entries(text, end, &cells, last.state.entries)
 }
 
-// Judges the table, under the rule file unless `has` is 0, then the list, then the buffer, and runs the calls: a refusal, or the length of the text, which
+// Judges the table, under the rule file where there is one, then the list, then the buffer, and runs the calls: a refusal, or the length of the text, which
 // stands at the buffer's start.
-pub fn run_list(table: &[u8], list: &[u8], rules: &[u8], has: u64, text: &mut [u8]) -> Verdict
-    ensures { (result ≡ (run_of has rules.now table.now list.now text.old).answer) × (text.new ≡ (run_of has rules.now table.now list.now text.old).buffer) }
+pub fn run_list(
+    table: &[u8],
+    list: &[u8],
+    rules: Option<&[u8]>,
+    text: &mut [u8],
+) -> Result<usize, Refusal>
+    ensures { (verdict_of result ≡ (run_by (option_copied rules) table.now list.now text.old).answer) × (text.new ≡ (run_by (option_copied rules) table.now list.now text.old).buffer) }
 {
-    let judged = judging::judge_under(table, rules, has);
-    if let Verdict::Refused(number, row) = judged {
-        return Verdict::Refused(number, row);
-    }
+    judging::judge_under(table, rules)?;
     let index = table::index::index_of(table);
-    let listed = calls::list_verdict(table, list, index);
-    if let Verdict::Refused(number, row) = listed {
-        return Verdict::Refused(number, row);
-    }
+    calls::list_verdict(table, list, index)?;
     if text.len() < MIN_TEXT {
-        return Verdict::Refused(SHORT_TEXT, 0);
+        return Err(Reason::SmallBuffer.at(0));
     }
-    Verdict::Accepted(run_calls(table, list, index, text))
+    Ok(run_calls(table, list, index, text))
 }

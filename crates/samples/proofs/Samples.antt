@@ -1,7 +1,7 @@
 -- The rules judge each sample as it states, by computation: part by part, since the checker bounds what one theorem may compute.
 use mathlib.Core.Path.{◌≡◌, refl}
 use mathlib.Core.List.{List, ◌++◌, map, map-append}
-use Rattle.table.specs.declared.Verdict.{Verdict}
+use Rattle.table.specs.Verdicts.{Verdict}
 use Rattle.judging.specs.Judging.{judge_under}
 use Rattle.samples.specs.Samples.{Sample, judging_rows, judging_values, judging_walks, judging_marks, judging_overwritten, judging_read_only, judging_handed, judging_helpers, judging_given, judging_rounds, judging_file, judging_pairs, samples, given, answered}
 use Rattle.samples.proofs.Rules.{rules}

@@ -1,7 +1,6 @@
 -- Tables, with a rule file or without, and what judging them answers.
 use Rattle.std.specs.Prelude.{ℕ, List, [], ◌∷◌, ◌++◌, take, drop, set}
-use Rattle.table.specs.declared.Verdict.{Verdict}
-use Rattle.table.specs.declared.Verdict.TheVariants.{Accepted, Refused}
+use Rattle.table.specs.Verdicts.{Verdict, Accepted, Refused}
 use Rattle.samples.specs.Tables.{row, table, trusted, guest, type, number, guarded, public, private, parameter, local, result, code, pop, load_const, mv_loc, cp_loc, st_loc, borrow_loc, read_ref, write_ref, borrow_fld, pack, unpack, move_to, move_from, exists, call_procedure, ret, branch, branch_cond, freeze, rule, allow, forbid, rows_s, rows_t, rows_round, with_row, without-row, times, rows_lent, rows_shown, rows_takes_one, rows_takes_two, rows_crossed, rows_rotated, rows_swapped, rows_jumped_over, rows_dropped, rows_given_once, rows_returned_at, rows_called_twice, rows_thirteen, rows_marked_on_fall_through, rows_marked_on_jump, rows_overwritten_once, rows_overwritten_twice, rows_guests, rules_guests, rows_within}
 
 -- a sample: whether there is a rule file, and its bytes; the bytes of a table, and its verdict

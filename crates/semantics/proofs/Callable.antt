@@ -11,11 +11,10 @@ use lib.ListN.{length}
 use Rattle.laws.proofs.First.{unfaulted}
 use Rattle.laws.proofs.Tests.{and_both, neither}
 use Rattle.table.specs.declared.Row.{Row}
-use Rattle.table.specs.declared.Verdict.TheVariants.{Accepted}
+use Rattle.table.specs.Verdicts.{Accepted, pass_over}
 use Rattle.table.specs.declared.index.Index.{Index}
 use Rattle.table.specs.Format.{row_bytes}
 use Rattle.table.specs.Rows.{row_count, row_at, kind_at, is_kind}
-use Rattle.table.specs.Verdicts.{pass_over}
 use Rattle.table.proofs.Laws.{kind_outside}
 use Rattle.declarations.specs.Program.{procedure_in, parameter_kinds, result_kinds}
 use Rattle.declarations.proofs.Passes.{let_through, over_fine}

@@ -9,7 +9,7 @@ use native.Mathlib.Omega.{arith}
 use lib.ListN.{length, drop}
 use Rattle.table.specs.declared.Row.{Row}
 use Rattle.table.specs.declared.index.Index.{Index}
-use Rattle.table.specs.declared.Verdict.TheVariants.{Accepted}
+use Rattle.table.specs.Verdicts.{Accepted}
 use Rattle.table.specs.Format.{max_results, op_pack, op_unpack, op_move_to, op_move_from}
 use Rattle.table.specs.Index.{index_of, owner_at}
 use Rattle.table.specs.Rows.{row_at}

@@ -6,7 +6,7 @@ use mathlib.Core.Option.{some}
 use native.Mathlib.Omega.{arith}
 use lib.ListN.{length, length-append, get_elem? as nth}
 use Rattle.laws.specs.Sorting.{sort_by}
-use Rattle.table.specs.declared.Verdict.TheVariants.{Accepted}
+use Rattle.table.specs.Verdicts.{Accepted}
 use Rattle.table.specs.Format.{max_types}
 use Rattle.table.specs.Index.{index_of}
 use Rattle.judging.specs.Judging.{judge_of}

@@ -8,7 +8,7 @@ use native.Mathlib.Omega.{arith}
 use lib.Dec.{eqb}
 use lib.ListN.{set}
 use Rattle.table.specs.declared.index.ProcedureEntry.{ProcedureEntry}
-use Rattle.table.specs.declared.Verdict.TheVariants.{Accepted}
+use Rattle.table.specs.Verdicts.{Accepted}
 use Rattle.table.specs.Format.{op_call}
 use Rattle.table.specs.Rows.{row_count, row_at, kind_at}
 use Rattle.table.specs.Index.{index_of, owner_at}

@@ -1,13 +1,11 @@
 -- The call list: refusals 15 and 16 of document 01, and the calls of a good list.
 use Rattle.std.specs.Prelude.{ℕ, zero, suc, ◌+◌, ◌-◌, ◌%◌, Bool, true, cond, not, ◌&&◌, ◌||◌, List, [], ◌∷◌, eqb, ltb, leb, length}
 use Rattle.table.specs.declared.Row.{Row}
-use Rattle.table.specs.declared.Verdict.{Verdict}
-use Rattle.table.specs.declared.Verdict.TheVariants.{Refused}
+use Rattle.table.specs.Verdicts.{Verdict, Refused, pass_over}
 use Rattle.table.specs.declared.index.Index.{Index}
 use Rattle.table.specs.declared.index.ProcedureEntry.{ProcedureEntry}
 use Rattle.table.specs.Format.{row_bytes}
 use Rattle.table.specs.Rows.{row_count, row_at, is_kind}
-use Rattle.table.specs.Verdicts.{pass_over}
 use Rattle.table.specs.Flags
 use Rattle.table.specs.Refusals
 use Rattle.table.specs.Refusals.{bad_list}

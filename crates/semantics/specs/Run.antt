@@ -1,10 +1,8 @@
 -- Running a list of calls over a table (document 01): judge the table, under a rule file where there is one, then the list, then the buffer, and only
 -- then call.
 use Rattle.std.specs.Prelude.{ℕ, cond, List, ◌++◌, ltb, length, drop}
-use Rattle.table.specs.declared.Verdict.{Verdict}
-use Rattle.table.specs.declared.Verdict.TheVariants.{Accepted, Refused}
+use Rattle.table.specs.Verdicts.{Verdict, Accepted, Refused, and_then}
 use Rattle.table.specs.Index.{index_of}
-use Rattle.table.specs.Verdicts.{and_then}
 use Rattle.table.specs.Refusals.{small_buffer}
 use Rattle.judging.specs.Judging.{judge_under}
 use Rattle.semantics.specs.Calls.{list_of, calls_of}

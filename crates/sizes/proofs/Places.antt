@@ -12,7 +12,7 @@ use lib.Dec.{eqb, ltb}
 use lib.ListN.{length, get_or}
 use Rattle.laws.specs.Lists.{member, count, nth}
 use Rattle.laws.proofs.Lists.{find_hit, nth-count}
-use Rattle.table.specs.declared.Verdict.TheVariants.{Accepted, Refused}
+use Rattle.table.specs.Verdicts.{Accepted, Refused}
 use Rattle.table.specs.Format.{module_kind, procedure_kind, local_kind, result_kind, instruction_kind}
 use Rattle.table.specs.Rows.{row_count, row_at, kind_at, is_kind}
 use Rattle.table.specs.Index.{index_of, indexed_rows, run_end, procedure_at, results_start, code_start, code_end}

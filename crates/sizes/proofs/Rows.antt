@@ -12,7 +12,7 @@ use lib.Seq.{get_or-take, get_or-drop}
 use Rattle.laws.specs.Lists.{hits, count, nth}
 use Rattle.laws.specs.Numbers.{le}
 use Rattle.laws.proofs.Lists.{get_d_snoc_old, get_d_snoc_new, hits-kept, count_yes, count_skip, length-entries}
-use Rattle.table.specs.declared.Verdict.TheVariants.{Accepted}
+use Rattle.table.specs.Verdicts.{Accepted}
 use Rattle.table.specs.declared.index.ProcedureEntry.{ProcedureEntry}
 use Rattle.table.specs.Format.{procedure_kind, op_ret, op_branch}
 use Rattle.table.specs.Rows.{row_count, row_at, row_from, kind_at, is_kind}

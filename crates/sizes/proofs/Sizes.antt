@@ -13,7 +13,7 @@ use lib.ListN.{length, get_or, take, drop, length-take, length-append, get_or-eq
 use Rattle.laws.specs.Lists.{member, hits, nth, count}
 use Rattle.laws.proofs.Lists.{get_d_snoc_old, get_d_snoc_new, length-entries}
 use Rattle.table.specs.declared.Row.{Row}
-use Rattle.table.specs.declared.Verdict.TheVariants.{Accepted}
+use Rattle.table.specs.Verdicts.{Accepted}
 use Rattle.table.specs.declared.index.ProcedureEntry.{ProcedureEntry}
 use Rattle.table.specs.Format.{procedure_kind}
 use Rattle.table.specs.Rows.{row_count, row_at, kind_at, is_kind}

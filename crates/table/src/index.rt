@@ -58,26 +58,19 @@ impl ProcedureEntry {
 fn indexed_rows(table: &[u8]) -> usize
     ensures { result ≡ indexed_rows table.now }
 {
-    let rows = table.len() / format::ROW_BYTES;
-    if rows < format::MAX_ROWS {
-        rows
-    } else {
-        format::MAX_ROWS
-    }
+    (table.len() / format::ROW_BYTES).min(format::MAX_ROWS)
 }
 
 // The first row from start on, before row n, that is not of this kind.
 fn run_end(table: &[u8], n: usize, kind: u8, start: usize) -> usize
     ensures { result ≡ run_end table.now n kind start }
 {
-    let mut i = start;
-    while i < n {
+    for i in start..n {
         if crate::kind_at(table, i) != kind {
             return i;
         }
-        i += 1;
     }
-    i
+    n.max(start)
 }
 
 // The number of a module, where m modules begin above.
@@ -85,7 +78,7 @@ fn owner_of(m: usize) -> u16
     requires { m ≤ 2048 }
     ensures { result ≡ m - 1 }
 {
-    if m == 0 { 0 } else { (m - 1) as u16 }
+    m.saturating_sub(1) as u16
 }
 
 // The entry of the type at row i of n, below the starts of m modules.

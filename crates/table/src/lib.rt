@@ -2,9 +2,7 @@
 #![tactic(auto)]
 
 ghost use Rattle.std.specs.Prelude.{◌≡◌, ◌+◌, ◌*◌, ◌≤◌, ◌<◌, length};
-ghost use Rattle.laws.specs.Numbers.{le};
 ghost use Rattle.table.specs.Rows.{row_at, kind_at};
-ghost use Rattle.table.specs.Verdicts.{number_of, value_of};
 
 pub mod format;
 pub mod index;
@@ -32,59 +30,6 @@ impl Row {
     };
 }
 
-// What judging a table, or a pass over it, answers.
-#[derive(Clone, Copy)]
-pub enum Verdict {
-    // Accepted, with the number of rows.
-    Accepted(usize),
-    // The number of the refusal, and its row.
-    Refused(u8, usize),
-}
-
-impl Verdict {
-    // Document 01's number: 0 where the table is accepted.
-    pub fn number(self) -> u8
-        ensures { result ≡ number_of self }
-    {
-        match self {
-            Verdict::Accepted(_) => 0,
-            Verdict::Refused(number, _) => number,
-        }
-    }
-
-    // Document 01's value: the number of rows, or the refused row.
-    pub fn value(self) -> usize
-        ensures { result ≡ value_of self }
-    {
-        match self {
-            Verdict::Accepted(rows) => rows,
-            Verdict::Refused(_, row) => row,
-        }
-    }
-}
-
-// The little-endian numbers of two, four and eight bytes at o.
-fn le16_at(s: &[u8], o: usize) -> u16
-    requires { o + 2 ≤ length s.now }
-    ensures { result ≡ le s.now o 2 }
-{
-    (s[o] as u16) + 256 * (s[o + 1] as u16)
-}
-
-fn le32_at(s: &[u8], o: usize) -> u32
-    requires { o + 4 ≤ length s.now }
-    ensures { result ≡ le s.now o 4 }
-{
-    (le16_at(s, o) as u32) + 65536 * (le16_at(s, o + 2) as u32)
-}
-
-fn le64_at(s: &[u8], o: usize) -> u64
-    requires { o + 8 ≤ length s.now }
-    ensures { result ≡ le s.now o 8 }
-{
-    (le32_at(s, o) as u64) + 4294967296 * (le32_at(s, o + 4) as u64)
-}
-
 // Row i of the table, or the blank row where there is no whole row i.
 pub fn row_at(table: &[u8], i: usize) -> Row
     ensures { result ≡ row_at table.now i }
@@ -94,9 +39,18 @@ pub fn row_at(table: &[u8], i: usize) -> Row
         Row {
             kind: table[o],
             a: table[o + 1],
-            b: le16_at(table, o + 2),
-            c: le32_at(table, o + 4),
-            d: le64_at(table, o + 8),
+            b: u16::from_le_bytes([table[o + 2], table[o + 3]]),
+            c: u32::from_le_bytes([table[o + 4], table[o + 5], table[o + 6], table[o + 7]]),
+            d: u64::from_le_bytes([
+                table[o + 8],
+                table[o + 9],
+                table[o + 10],
+                table[o + 11],
+                table[o + 12],
+                table[o + 13],
+                table[o + 14],
+                table[o + 15],
+            ]),
         }
     } else {
         Row::BLANK

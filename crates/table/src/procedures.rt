@@ -10,12 +10,10 @@ pub fn part<'a>(table: &'a [u8], from: usize, to: usize) -> &'a [u8]
     ensures ref_ptr_value { result.ref_ptr ≡ place_in table.entry.ref_ptr (part_start table.now from to) }
 {
     let n = table.len() / format::ROW_BYTES;
-    if from <= to {
-        if to <= n {
-            let start = format::ROW_BYTES * from;
-            let end = format::ROW_BYTES * to;
-            return &table[start..end];
-        }
+    if from <= to && to <= n {
+        let start = format::ROW_BYTES * from;
+        let end = format::ROW_BYTES * to;
+        return &table[start..end];
     }
     &table[0..0]
 }
@@ -26,15 +24,13 @@ pub fn procedure_row(table: &[u8], p: usize) -> usize
 {
     let n = table.len() / format::ROW_BYTES;
     let mut left = p;
-    let mut i = 0;
-    while i < n {
+    for i in 0..n {
         if crate::kind_at(table, i) == format::PROCEDURE {
             if left == 0 {
                 return i;
             }
             left -= 1;
         }
-        i += 1;
     }
     n
 }
@@ -44,18 +40,13 @@ pub fn procedure_end(table: &[u8], start: usize) -> usize
     ensures { result ≡ procedure_end table.now start }
 {
     let n = table.len() / format::ROW_BYTES;
-    let mut i = start;
-    while i < n {
+    for i in start..n {
         let kind = crate::kind_at(table, i);
-        if kind == format::MODULE {
+        if kind == format::MODULE || kind == format::PROCEDURE {
             return i;
         }
-        if kind == format::PROCEDURE {
-            return i;
-        }
-        i += 1;
     }
-    i
+    n.max(start)
 }
 
 // The rows of procedure p; an empty part where there is no such procedure.

@@ -1,53 +1,96 @@
-// The refusals of documents 01 and 02 by name, pass by pass. specs/Refusals.antt has the same names for the rules.
+// Why a table, a rule file, a list of calls or a buffer is refused (documents 01 and 02), pass by pass. specs/Refusals.antt has the same names for the rules.
+ghost use Rattle.std.specs.Prelude.{◌≡◌, Some};
+ghost use Rattle.table.specs.Verdicts.{number_of, value_of, number_of_reason, refusal_at, refused_text, verdict_of};
 
-// Length.
-pub const BAD_LENGTH: u8 = 1;
+use std::error::Error;
+use std::fmt;
 
-// Rows: a kind unknown or not allowed there; a limit passed; an unused byte that is not zero; a value not allowed; a guard misplaced.
-pub const BAD_PLACE: u8 = 2;
+// The reasons, each with its number.
+#[derive(Clone, Copy, Debug, PartialEq, Eq)]
+pub enum Reason {
+    // Length.
+    BadLength = 1,
+    // Rows: a kind unknown or not allowed there; a limit passed; an unused byte that is not zero; a value not allowed; a guard misplaced.
+    BadPlace = 2,
+    OverLimit = 3,
+    DirtyByte = 4,
+    WrongValue = 18,
+    WrongGuard = 19,
+    // Names: a procedure without instructions, or with another last one than Ret and Branch; what is named does not exist.
+    OpenEnd = 5,
+    NotDeclared = 6,
+    // Operands: missing, of the wrong kind, or a local unfit; too many; some left; a type or private procedure of another module.
+    WrongOperand = 7,
+    TooManyOperands = 8,
+    OperandsLeft = 9,
+    ForeignName = 10,
+    // Locals: one that may be empty; a record that may be lost.
+    EmptyLocal = 11,
+    LostRecord = 12,
+    // Leaks: a marked reference given to a Call; returned.
+    MarkGiven = 13,
+    MarkReturned = 14,
+    // Rules, where there is a rule file: malformed; a pair of modules under no row of it, or under several; a Call that it forbids.
+    BadRules = 20,
+    UnruledPair = 21,
+    ForbiddenCall = 22,
+    // Running: the list; a call; the text buffer.
+    BadList = 15,
+    BadCall = 16,
+    SmallBuffer = 17,
+}
 
-pub const OVER_LIMIT: u8 = 3;
+impl Reason {
+    // Its number in documents 01 and 02.
+    pub fn number(self) -> u8
+        ensures { result ≡ number_of_reason self }
+    {
+        self as u8
+    }
 
-pub const DIRTY_BYTE: u8 = 4;
+    // The refusal for this reason at a row.
+    pub fn at(self, row: usize) -> Refusal
+        ensures { result ≡ refusal_at self row }
+    {
+        Refusal { reason: self, row }
+    }
+}
 
-pub const WRONG_VALUE: u8 = 18;
+// A refusal: why, and the row, or the pair of modules, that earns it.
+#[derive(Clone, Copy, Debug, PartialEq, Eq)]
+pub struct Refusal {
+    pub reason: Reason,
+    pub row: usize,
+}
 
-pub const WRONG_GUARD: u8 = 19;
+// As the programs print it.
+impl fmt::Display for Refusal {
+    ghost output = { λ x. Some (refused_text x) };
 
-// Names: a procedure without instructions, or with another last one than Ret and Branch; what is named does not exist.
-pub const OPEN_END: u8 = 5;
+    fn fmt<W: fmt::Write>(&self, f: &mut fmt::Formatter<W>) -> fmt::Result {
+        let number = self.reason.number();
+        write!(f, "refused {number} row {}", self.row)
+    }
+}
 
-pub const NOT_DECLARED: u8 = 6;
+impl Error for Refusal {}
 
-// Operands: missing, of the wrong kind, or a local unfit; too many; some left; a type or private procedure of another module.
-pub const WRONG_OPERAND: u8 = 7;
+// Document 01's number: 0 where the table is accepted.
+pub fn number_of(verdict: Result<usize, Refusal>) -> u8
+    ensures { result ≡ number_of (verdict_of verdict) }
+{
+    match verdict {
+        Ok(_) => 0,
+        Err(refusal) => refusal.reason.number(),
+    }
+}
 
-pub const TOO_MANY_OPERANDS: u8 = 8;
-
-pub const OPERANDS_LEFT: u8 = 9;
-
-pub const FOREIGN_NAME: u8 = 10;
-
-// Locals: one that may be empty; a record that may be lost.
-pub const EMPTY_LOCAL: u8 = 11;
-
-pub const LOST_RECORD: u8 = 12;
-
-// Leaks: a marked reference given to a Call; returned.
-pub const MARK_GIVEN: u8 = 13;
-
-pub const MARK_RETURNED: u8 = 14;
-
-// Rules, where there is a rule file: malformed; a pair of modules under no row of it, or under several; a Call that it forbids.
-pub const BAD_RULES: u8 = 20;
-
-pub const UNRULED_PAIR: u8 = 21;
-
-pub const FORBIDDEN_CALL: u8 = 22;
-
-// Running: the list; a call; the text buffer.
-pub const BAD_LIST: u8 = 15;
-
-pub const BAD_CALL: u8 = 16;
-
-pub const SMALL_BUFFER: u8 = 17;
+// Document 01's value: the number of rows, or the refused row.
+pub fn value_of(verdict: Result<usize, Refusal>) -> usize
+    ensures { result ≡ value_of (verdict_of verdict) }
+{
+    match verdict {
+        Ok(rows) => rows,
+        Err(refusal) => refusal.row,
+    }
+}

@@ -9,13 +9,10 @@ use native.Mathlib.Decide.{dec_lt}
 use native.Mathlib.Omega.{arith}
 use borrow.Author.Tests.{lt-ltb, le-ltb}
 use lib.Dec.{ltb}
-use lib.ListN.{length, set, take, drop, length-set, take-append-drop}
-use lib.Seq.{take-suc-set, drop-set-lt}
-use Rattle.text.specs.code.Placing.{Placed, placed}
-
--- t and e are the buffer and the end after placing
-abbrev pub Puts : List ℕ → ℕ → List ℕ → List ℕ → ℕ → Type 0
-Puts s at bytes t e = (t ≡ (placed s at bytes).buffer) × (e ≡ (placed s at bytes).end)
+use lib.ListN.{length, get_or, set, take, drop, length-set, take-append-drop}
+use lib.Seq.{take-suc, take-suc-set, drop-set-lt}
+use Rattle.text.specs.declared.Writer.{Writer}
+use Rattle.text.specs.code.Placing.{Placed, placed, Puts}
 
 -- no room: nothing changes
 pub placed-full : (s : List ℕ) (at : ℕ) (bs : List ℕ) → length s ≤ at → placed s at bs ≡ record { buffer = s; end = at }
@@ -64,23 +61,20 @@ placed_fits s at (b ∷ bs) h =
     split l m = rw (drop-set-lt (at + 1 + length bs) s at b (omega arith), m, add-one, take-suc-set s at b l) (simp append_assoc)
 
 -- nothing is put
-pub puts_none : (s : List ℕ) (at : ℕ) → Puts s at [] s at
+pub puts_none : (w : Writer) → Puts w [] w
 unfolding placed
-puts_none s at = (refl, refl)
-
--- one byte, with room for it
-pub puts_byte : (s : List ℕ) (at b : ℕ) → at < length s → Puts s at (b ∷ []) (set s at b) (at + 1)
-unfolding placed
-puts_byte s at b h = rw (lt-ltb _ _ h) (refl, refl)
-
--- any bytes, without room
-pub puts_full : (s : List ℕ) (at : ℕ) (bs : List ℕ) → length s ≤ at → Puts s at bs s at
-puts_full s at bs h = rw (placed-full s at bs h) (refl, refl)
+puts_none w = record { same_reference = refl; text = refl; end = refl }
 
 -- xs are put, and then ys
-pub puts_more : (s : List ℕ) (at : ℕ) (xs ys t : List ℕ) (e : ℕ) {u : List ℕ} {r : ℕ} → Puts s at xs t e → Puts t e ys u r → Puts s at (xs ++ ys) u r
-puts_more s at xs ys t e p q = rw (placed_append s at xs ys, ← p.0, ← p.1) q
+pub puts_more : {w v u : Writer} {xs ys : List ℕ} → Puts w xs v → Puts v ys u → Puts w (xs ++ ys) u
+puts_more {w} {v} {u} {xs} {ys} p q =
+    let e = placed_append w.text.now w.end xs ys in
+    record { same_reference = q.same_reference ∙ p.same_reference; text = rw (e, ← p.text, ← p.end) q.text; end = rw (e, ← p.text, ← p.end) q.end }
 
 -- the same bytes in other words
-pub puts_same : (s : List ℕ) (at : ℕ) {xs ys t : List ℕ} {e : ℕ} → xs ≡ ys → Puts s at xs t e → Puts s at ys t e
-puts_same s at q p = rw (← q) p
+pub puts_same : {w u : Writer} {xs ys : List ℕ} → xs ≡ ys → Puts w xs u → Puts w ys u
+puts_same q p = rw (← q) p
+
+-- the bytes of a word one after the other: one more
+pub puts_next : (word : List ℕ) (i : ℕ) {w v u : Writer} → i < length word → Puts w (take i word) v → Puts v (get_or word i 0 ∷ []) u → Puts w (take (i + 1) word) u
+puts_next word i h p q = rw (add-one, take-suc word i 0 h) (puts_more p q)

@@ -1,7 +1,7 @@
 -- A judge without the leaks pass would break demand 3: a table that only that pass refuses, and a list over it with an event that is not safe. One that does not
 -- ask the rule file would break the promise about forbidden pairs: a table that only the file refuses, and a list over it with an event that is not permitted.
 use Rattle.std.specs.Prelude.{ℕ, ◌≡◌, List, [], ◌∷◌}
-use Rattle.table.specs.declared.Verdict.TheVariants.{Accepted, Refused}
+use Rattle.table.specs.Verdicts.{Accepted, Refused}
 use Rattle.table.specs.Index.{index_of}
 use Rattle.rows.specs.Rows.{length_of, rows_of}
 use Rattle.names.specs.Names.{names_of}

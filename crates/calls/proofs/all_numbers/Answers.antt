@@ -1,15 +1,16 @@
-use mathlib.Core.Path.{refl, sym, ◌∙◌}
-use Rattle.calls.proofs.Laws.{numbers_more, numbers-not, numbers-end}
+use Prim.Native.Nat.{ℕ, ◌-◌}
+use mathlib.Core.Path.{refl, ◌∙◌}
+use lib.Dec.{eqb}
+use Rattle.std.proofs.Common.{rules, tests}
+use Rattle.std.proofs.lemmas.Iterator.{YieldsList-from_range}
+use Rattle.std.proofs.lemmas.Iterator.Search.{all_from_yields_List}
+use Rattle.table.specs.Rows.{row_at}
+use Rattle.declarations.specs.Program.{row_kind}
+use Rattle.calls.proofs.Laws.{numbers_from}
 use Rattle.calls.proofs.all_numbers.Goals as goal
 
-pub loop-i-init : goal.loop-i-init
-loop-i-init c = refl
-
-pub returns-then-row_kind-ne0 : goal.returns-then-row_kind-ne0
-returns-then-row_kind-ne0 c = sym (c.loop-i.invariant ∙ numbers-not _ _ _ c.loop-i-test.true (λ q. c.if-row_kind-ne0.true (rw (← c.row_at.ensures, ← c.row_kind.ensures) at q)))
-
-pub loop-i-preserved : goal.loop-i-preserved
-loop-i-preserved c = c.loop-i.invariant ∙ numbers_more _ _ _ c.loop-i-test.true (rw (← c.row_at.ensures, ← c.row_kind.ensures) c.if-row_kind-ne0.false)
-
 pub returns : goal.returns
-returns c = sym (c.loop-i.invariant ∙ numbers-end _ _ _ c.loop-i-test.false)
+returns c =
+    let a = c.args in
+    all_from_yields_List (λ (i : ℕ). eqb (row_kind (row_at a.table.now i)) 0) _ _ _ c.all.ensures.ran (YieldsList-from_range a.from a.to (a.to - a.from) refl refl) (λ x b q k. search (rules, tests))
+    ∙ numbers_from a.table.now a.from a.to

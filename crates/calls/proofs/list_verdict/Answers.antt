@@ -1,31 +1,31 @@
 use mathlib.Core.Path.{◌≡◌, sym, ◌∙◌}
 use borrow.Author.Tests.{lt-ltb, le-ltb, ne_eqb}
 use Rattle.laws.proofs.First.{fine, faulty_with, done, whole}
-use Rattle.table.specs.declared.Verdict.TheVariants.{Accepted, Refused}
+use Rattle.table.specs.Verdicts.{Accepted, Refused}
 use Rattle.table.specs.Rows.{row_count}
 use Rattle.semantics.specs.Calls.{list_of}
 use native.Mathlib.Omega.{arith}
 use Rattle.calls.proofs.list_verdict.Goals as goal
+use Rattle.calls.proofs.list_verdict.Goals.{then-list-gt-MAX_LIST_BYTES-via-then-list-gt-MAX_LIST_BYTES, then-list-gt-MAX_LIST_BYTES-via-else-list-gt-MAX_LIST_BYTES+then-list-ne0}
 
 pub returns-then-list-gt-MAX_LIST_BYTES : goal.returns-then-list-gt-MAX_LIST_BYTES
 unfolding list_of
-returns-then-list-gt-MAX_LIST_BYTES c = rw (lt-ltb _ _ c.if-list-gt-MAX_LIST_BYTES.true)
-
-pub returns-then-list-ne0 : goal.returns-then-list-ne0
-unfolding list_of
-returns-then-list-ne0 c = rw (le-ltb _ _ c.if-list-gt-MAX_LIST_BYTES.false, ne_eqb _ _ c.if-list-ne0.true)
+returns-then-list-gt-MAX_LIST_BYTES c =
+    elim c.then-list-gt-MAX_LIST_BYTES.branch [
+      | then-list-gt-MAX_LIST_BYTES-via-then-list-gt-MAX_LIST_BYTES w ↦ rw (lt-ltb _ _ w.if-list-gt-MAX_LIST_BYTES.true)
+      | then-list-gt-MAX_LIST_BYTES-via-else-list-gt-MAX_LIST_BYTES+then-list-ne0 w ↦ rw (le-ltb _ _ w.if-list-gt-MAX_LIST_BYTES.false, ne_eqb _ _ w.if-list-ne0.true)
+    ]
 
 pub loop-i-init : goal.loop-i-init
 unfolding list_of
-loop-i-init c = (omega arith, rw (le-ltb _ _ c.if-list-gt-MAX_LIST_BYTES.false, c.if-list-ne0.false) (whole Accepted Refused _ _))
+loop-i-init c = rw (le-ltb _ _ c.if-list-gt-MAX_LIST_BYTES.false, c.if-list-ne0.false) (whole Accepted Refused _ _)
 
 pub returns-then-fault-ne0 : goal.returns-then-fault-ne0
-returns-then-fault-ne0 c = let z = sym c.list_fault-fault.ensures in
-    sym (c.loop-i.invariant.1 ∙ faulty_with Accepted Refused _ _ _ _ (omega arith) z c.if-fault-ne0.true)
+returns-then-fault-ne0 c = sym (c.loop-i.invariant ∙ faulty_with Accepted Refused _ _ _ _ (omega arith) (sym c.list_fault-fault.ensures) c.if-fault-ne0.true)
 
 pub loop-i-preserved : goal.loop-i-preserved
-loop-i-preserved c = (omega arith, c.loop-i.invariant.1 ∙ fine Accepted Refused _ _ _ (omega arith) (sym c.list_fault-fault.ensures ∙ c.if-fault-ne0.false))
+loop-i-preserved c = c.loop-i.invariant ∙ fine Accepted Refused _ _ _ (omega arith) (sym c.list_fault-fault.ensures ∙ c.if-fault-ne0.false)
 
 pub returns : goal.returns
 returns c = let e : c.loop-i.i ≡ row_count c.args.list.now = omega arith in
-    sym (c.loop-i.invariant.1 ∙ rw e (done Accepted Refused _ _))
+    sym (c.loop-i.invariant ∙ rw e (done Accepted Refused _ _))

@@ -1,4 +1,4 @@
-use borrow.Author.Tests.{eq-eqb, ne_eqb}
+use borrow.Author.Tests.{eq-eqb, ne_eqb, lt-leb}
 use Rattle.effects.specs.Effects
 use Rattle.effects.proofs.Laws.{two-less, two_more}
 use Rattle.effects.proofs.reads.Goals as goal
@@ -7,10 +7,10 @@ pub returns-then-top-k : goal.returns-then-top-k
 unfolding Effects.reads
 returns-then-top-k c = rw (eq-eqb _ _ c.if-top-k.true)
 
-pub returns-then-top-lt2 : goal.returns-then-top-lt2
+pub returns-then-top-ge2 : goal.returns-then-top-ge2
 unfolding Effects.reads
-returns-then-top-lt2 c = rw (ne_eqb _ _ c.if-top-k.false, two_more _ _ c.if-top-lt2.true)
+returns-then-top-ge2 c = rw (ne_eqb _ _ c.if-top-k.false, two-less _ _ c.if-top-ge2.true)
 
-pub returns : goal.returns
+pub returns-else-top-ge2 : goal.returns-else-top-ge2
 unfolding Effects.reads
-returns c = rw (ne_eqb _ _ c.if-top-k.false, two-less _ _ c.if-top-lt2.false)
+returns-else-top-ge2 c = rw (ne_eqb _ _ c.if-top-k.false, two_more _ _ c.if-top-ge2.false) (lt-leb _ _ c.if-top-ge2.false)

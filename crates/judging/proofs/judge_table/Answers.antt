@@ -1,7 +1,7 @@
 -- Each pass that accepts leaves the judgement to the later ones; one that refuses decides it.
 use mathlib.Core.Path.{◌≡◌, sym, ◌∙◌}
 use mathlib.Core.List.{[], ◌∷◌}
-use Rattle.table.specs.declared.Verdict.TheVariants.{Accepted}
+use Rattle.table.specs.Verdicts.{Accepted}
 use Rattle.rows.specs.Rows.{form_of}
 use Rattle.names.specs.Names.{names_of, names_with}
 use Rattle.operands.specs.Operands.{operands_of, operands_with}

@@ -3,7 +3,7 @@ use mathlib.Core.Path.{◌≡◌, sym, ◌∙◌}
 use native.Mathlib.Omega.{arith}
 use lib.ListN.{length, get_or-eq_default}
 use Rattle.laws.proofs.First.{fine, faulty_with, done, whole}
-use Rattle.table.specs.declared.Verdict.TheVariants.{Accepted, Refused}
+use Rattle.table.specs.Verdicts.{Accepted, Refused}
 use Rattle.declarations.specs.Program.{procedure_in, code_verdict}
 use Rattle.leaks.specs.Leaks.{leak_from}
 use Rattle.leaks.specs.code.Read.{marked_in}

@@ -1,28 +1,15 @@
-use Rattle.locals.specs.code.Faults.{fault_from}
-use Rattle.declarations.specs.Program.{code_verdict}
-use Rattle.table.specs.Rows.{row_at, row_count}
-use Rattle.table.specs.declared.Verdict.TheVariants.{Accepted, Refused}
-use Rattle.laws.proofs.First.{fine, faulty_with, done, whole}
-use Prim.Native.Nat.{ℕ, ◌+◌}
-use mathlib.Core.Path.{◌≡◌, sym, ◌∙◌}
-use native.Mathlib.Omega.{arith}
+use Rattle.locals.proofs.Laws.{verdict_start, verdict_next, verdict_refused, verdict_end}
+use mathlib.Core.Path.{sym, ◌∙◌}
 use Rattle.locals.proofs.judge_code.Goals as goal
 
 pub loop-i-init : goal.loop-i-init
-unfolding code_verdict
-loop-i-init c = (omega arith, whole Accepted (λ (number j : ℕ). Refused number (_ + j)) _ _)
+loop-i-init c = verdict_start _ _ _
 
-pub returns-then-fault-ne0 : goal.returns-then-fault-ne0
-returns-then-fault-ne0 c =
-    let z : fault_from c.args.nodes.now (row_at c.args.code.now c.loop-i.i) (row_count c.args.code.now) c.args.count c.args.records c.loop-i.i ≡ c.fault_at-fault.result = rw (← c.row_at-row.ensures) (sym c.fault_at-fault.ensures) in
-    sym (c.loop-i.invariant.1 ∙ faulty_with Accepted (λ (number j : ℕ). Refused number (_ + j)) _ _ _ _ (omega arith) z c.if-fault-ne0.true)
+pub returns-in-Some : goal.returns-in-Some
+returns-in-Some c = rw c.at.ensures (sym (c.loop-i.invariant ∙ verdict_refused _ _ _ _ c.loop-i-test.true (rw c.row_at.ensures at (sym c.in-Some.ensures))))
 
 pub loop-i-preserved : goal.loop-i-preserved
-loop-i-preserved c =
-    let z : fault_from c.args.nodes.now (row_at c.args.code.now c.loop-i.i) (row_count c.args.code.now) c.args.count c.args.records c.loop-i.i ≡ 0 = rw (← c.row_at-row.ensures) (sym c.fault_at-fault.ensures ∙ c.if-fault-ne0.false) in
-    (omega arith, c.loop-i.invariant.1 ∙ fine Accepted (λ (number j : ℕ). Refused number (_ + j)) _ _ _ (omega arith) z)
+loop-i-preserved c = c.loop-i.invariant ∙ verdict_next _ _ _ c.loop-i-test.true (rw c.row_at.ensures at (sym c.in_default.ensures))
 
 pub returns : goal.returns
-returns c =
-    let e : c.loop-i.i ≡ row_count c.args.code.now = omega arith in
-    sym (c.loop-i.invariant.1 ∙ rw e (done Accepted (λ (number j : ℕ). Refused number (_ + j)) _ _))
+returns c = sym (c.loop-i.invariant ∙ verdict_end _ _ _ c.loop-i-test.false c.loop-i.auto.i-end)

@@ -1,17 +1,14 @@
-use Rattle.locals.specs.code.Sets.{those}
 use Rattle.locals.proofs.Sets.{those-none, those_more}
 use mathlib.Core.Logic.{inl, inr}
-use mathlib.Core.Path.{◌≡◌, ap, ◌∙◌}
-use native.Mathlib.Omega.{arith}
+use mathlib.Core.Path.{◌∙◌}
 use Rattle.locals.proofs.record_locals.Goals as goal
 use Rattle.locals.proofs.record_locals.Goals.{else-is_record_local, then-is_record_local}
 
 pub loop-l-init : goal.loop-l-init
-loop-l-init c = (omega arith, those-none _)
+loop-l-init c = those-none _
 
 pub loop-l-preserved : goal.loop-l-preserved
-loop-l-preserved c =
-    (omega arith, those_more _ _ c.loop-l.invariant.1 c.is_record_local.ensures (elim c.if-is_record_local.branch [ then-is_record_local w ↦ inl (w.if-is_record_local.true, w.set-is ∙ w.insert-set.ensures) | else-is_record_local w ↦ inr (w.if-is_record_local.false, w.set-is) ]))
-
-pub returns : goal.returns
-returns c = let e : c.loop-l.l ≡ c.args.count = omega arith in c.loop-l.invariant.1 ∙ ap (those _) e
+loop-l-preserved c = those_more _ _ c.loop-l.invariant c.is_record_local.ensures (elim c.if-is_record_local.branch [
+  | then-is_record_local w ↦ inl (w.if-is_record_local.true, w.set-is ∙ w.insert-set.ensures)
+  | else-is_record_local w ↦ inr (w.if-is_record_local.false, w.set-is)
+])

@@ -1,11 +1,10 @@
-use borrow.Author.Tests.{le-leb, lt-leb}
+use native.Mathlib.Omega.{arith}
+use borrow.Author.Tests.{lt-leb}
+use Prim.Native.Nat.{◌/◌}
 use Rattle.declarations.specs.Program.{field_count}
 use Rattle.names.proofs.Laws.{leb_minus}
 use Rattle.names.proofs.bad_field_number.Goals as goal
 
-pub returns-then-types-b : goal.returns-then-types-b
-returns-then-types-b c = rw (le-leb _ _ c.if-types-b.true)
-
-pub returns : goal.returns
+pub returns-else-s-from : goal.returns-else-s-from
 unfolding field_count
-returns c = rw (lt-leb _ _ c.if-types-b.false, leb_minus)
+returns-else-s-from c = rw (lt-leb c.args.s.types (c.args.b / 8) (omega arith), leb_minus) (cc)

@@ -6,38 +6,38 @@ use Rattle.names.specs.Names.{names, missing, nothing, local_number, field_numbe
 use Rattle.names.proofs.Laws.{leb_minus, named-alike}
 use Rattle.names.proofs.bad_operand.Goals as goal
 
-pub returns-then-opcode-lt-MV_LOC : goal.returns-then-opcode-lt-MV_LOC
-unfolding names tabulate missing
-returns-then-opcode-lt-MV_LOC c = rw (named-alike 0 2 nothing refl c.args.opcode (omega arith) (omega arith))
-
-pub returns-then-opcode-le-BORROW_LOC : goal.returns-then-opcode-le-BORROW_LOC
+pub returns-in-2-to-5 : goal.returns-in-2-to-5
 unfolding names tabulate missing local_count
-returns-then-opcode-le-BORROW_LOC c = rw (named-alike 2 4 local_number refl c.args.opcode (omega arith) (omega arith), leb_minus)
+returns-in-2-to-5 c = rw (named-alike 2 4 local_number refl c.args.opcode (omega arith) (omega arith), leb_minus) (cc)
 
-pub returns-then-opcode-lt-BORROW_FLD : goal.returns-then-opcode-lt-BORROW_FLD
+pub returns-in-8 : goal.returns-in-8
+unfolding names missing
+returns-in-8 c = rw c.in-8.is c.bad_field_number.ensures
+
+pub returns-in-9-to-14 : goal.returns-in-9-to-14
 unfolding names tabulate missing
-returns-then-opcode-lt-BORROW_FLD c = rw (named-alike 6 2 nothing refl c.args.opcode (omega arith) (omega arith))
+returns-in-9-to-14 c = rw (named-alike 9 6 type_number refl c.args.opcode (omega arith) (omega arith)) (cc)
 
-pub returns-then-opcode-eq-BORROW_FLD : goal.returns-then-opcode-eq-BORROW_FLD
-unfolding names tabulate missing
-returns-then-opcode-eq-BORROW_FLD c = rw (named-alike 8 1 field_number refl c.args.opcode (omega arith) (omega arith)) c.bad_field_number.ensures
+pub returns-in-15 : goal.returns-in-15
+unfolding names missing
+returns-in-15 c = rw c.in-15.is (cc)
 
-pub returns-then-opcode-lt-CALL : goal.returns-then-opcode-lt-CALL
-unfolding names tabulate missing
-returns-then-opcode-lt-CALL c = rw (named-alike 9 6 type_number refl c.args.opcode (omega arith) (omega arith))
-
-pub returns-then-opcode-eq-CALL : goal.returns-then-opcode-eq-CALL
-unfolding names tabulate missing
-returns-then-opcode-eq-CALL c = rw (named-alike 15 1 procedure_number refl c.args.opcode (omega arith) (omega arith))
-
-pub returns-then-opcode-eq-RET : goal.returns-then-opcode-eq-RET
-unfolding names tabulate missing
-returns-then-opcode-eq-RET c = rw (named-alike 16 1 nothing refl c.args.opcode (omega arith) (omega arith))
-
-pub returns-then-opcode-le-BRANCH_COND : goal.returns-then-opcode-le-BRANCH_COND
+pub returns-in-17 : goal.returns-in-17
 unfolding names tabulate missing code_length
-returns-then-opcode-le-BRANCH_COND c = rw (named-alike 17 2 target refl c.args.opcode (omega arith) (omega arith), leb_minus)
+returns-in-17 c = rw (named-alike 17 2 target refl c.args.opcode (grind arith) (grind arith), leb_minus) (cc)
 
-pub returns : goal.returns
+pub returns-in_default : goal.returns-in_default
 unfolding names tabulate missing
-returns c = rw (named-alike 19 237 nothing refl c.args.opcode (omega arith) (omega arith))
+returns-in_default c = rw (named-alike 0 2 nothing refl c.args.opcode (omega arith) (omega arith))
+
+pub returns-in_default-2 : goal.returns-in_default-2
+unfolding names tabulate missing
+returns-in_default-2 c = rw (named-alike 6 2 nothing refl c.args.opcode (omega arith) (omega arith))
+
+pub returns-in_default-3 : goal.returns-in_default-3
+unfolding names tabulate missing
+returns-in_default-3 c = rw (named-alike 16 1 nothing refl c.args.opcode (omega arith) (omega arith))
+
+pub returns-in_default-4 : goal.returns-in_default-4
+unfolding names tabulate missing
+returns-in_default-4 c = rw (named-alike 19 237 nothing refl c.args.opcode (omega arith) (omega arith))

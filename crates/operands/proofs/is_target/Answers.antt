@@ -1,25 +1,18 @@
-use mathlib.Core.Path.{◌≡◌, sym, ap, ◌∙◌}
+use Prim.Native.Nat.{ℕ, ◌/◌}
+use mathlib.Core.Path.{refl, ◌∙◌}
+use lib.ListN.{length}
 use native.Mathlib.Omega.{arith}
-use Rattle.table.specs.declared.Row.{Row}
-use Rattle.table.specs.Rows.{row_at, row_count}
-use Rattle.declarations.specs.Program.{is_target, jumps_to}
-use Rattle.operands.proofs.Laws.{target_none, target-next, target_found}
+use Rattle.std.proofs.Common.{rules, tests}
+use Rattle.std.proofs.lemmas.Iterator.{YieldsList-from_range}
+use Rattle.std.proofs.lemmas.Iterator.Search.{any_from_yields_List}
+use Rattle.table.specs.Rows.{row_at}
+use Rattle.declarations.specs.Program.{is_target, target_below, jumps_to}
+use Rattle.operands.proofs.Laws.{any_below}
 use Rattle.operands.proofs.is_target.Goals as goal
 
-pub loop-i-init : goal.loop-i-init
-loop-i-init c = (omega arith, target_none _ _)
-
-pub returns-then-jumps_to : goal.returns-then-jumps_to
-unfolding is_target
-returns-then-jumps_to c =
-    let jump-is : jumps_to (row_at c.args.code.now c.loop-i.i) c.args.j ≡ c.jumps_to.result = sym (c.jumps_to.ensures ∙ ap (λ (row : Row). jumps_to row c.args.j) c.row_at.ensures) in
-    sym (target_found _ _ c.loop-i.i _ c.loop-i-test.true (jump-is ∙ c.if-jumps_to.true))
-
-pub loop-i-preserved : goal.loop-i-preserved
-loop-i-preserved c =
-    let jump-is : jumps_to (row_at c.args.code.now c.loop-i.i) c.args.j ≡ c.jumps_to.result = sym (c.jumps_to.ensures ∙ ap (λ (row : Row). jumps_to row c.args.j) c.row_at.ensures) in
-    (omega arith, target-next _ _ _ c.loop-i.invariant.1 (jump-is ∙ c.if-jumps_to.false))
-
 pub returns : goal.returns
-unfolding is_target
-returns c = let e : c.loop-i.i ≡ row_count c.args.code.now = omega arith in sym (rw e at c.loop-i.invariant.1)
+unfolding is_target target_below
+returns c =
+    let n : ℕ = length c.args.code.now / 16 in
+    any_from_yields_List (λ (i : ℕ). jumps_to (row_at c.args.code.now i) c.args.j) _ _ _ c.any.ensures.ran (YieldsList-from_range 0 n n refl (omega arith)) (λ x b q k. search (rules, tests))
+    ∙ any_below _ (target_below c.args.code.now c.args.j) refl (λ n. refl) n

@@ -1,41 +1,29 @@
 use Rattle.operands.specs.Operands.{operands_with}
-use Rattle.declarations.proofs.Laws.{pass_start, pass_end, pass_refused, pass_on, passes_past, passes_all, passes_at, passes-entry, on_part}
-use Rattle.declarations.specs.Program.{code_of, procedure_in}
-use lib.ListN.{length}
-use mathlib.Core.Path.{◌≡◌, sym, ◌∙◌}
+use Rattle.operands.proofs.Laws.{procedures_done, procedure_accepted, procedure_refused}
+use Rattle.declarations.proofs.Laws.{pass_start}
+use Rattle.declarations.specs.Program.{code_of}
+use Rattle.std.proofs.lemmas.Result.{err_from_is_err_and}
+use mathlib.Core.Path.{sym, ◌∙◌}
 use native.Mathlib.Omega.{arith}
 use Rattle.operands.proofs.operands_with.Goals as goal
 
-pub loop-p-init : goal.loop-p-init
+pub loop-own-init : goal.loop-own-init
 unfolding operands_with
-loop-p-init c = (omega arith, pass_start _ _ _)
+loop-own-init c = pass_start _ _ _
 
-pub returns-then-index-p : goal.returns-then-index-p
-returns-then-index-p c =
-    let room : length c.args.index.procedure_entries ≡ 128 = c.well_formed.1.0.1.1.1.1.1.1.1.0.1.0.1 in
-    sym (c.loop-p.invariant.1 ∙ pass_end _ _ _ _ (passes_past c.args.index room _ c.if-index-p.true))
+pub judge_procedure-requires : goal.judge_procedure-requires
+unfolding code_of
+judge_procedure-requires c = c.part-code.ensures.result_value
 
-pub judge_procedure-verdict-requires : goal.judge_procedure-verdict-requires
-unfolding procedure_in code_of
-judge_procedure-verdict-requires c =
-    let code_is : c.part-code.result.now ≡ code_of c.args.table.now (procedure_in c.args.index c.loop-p.p) = c.part-code.ensures.result_value in
-    code_is
+pub returns-in_err-judge_procedure : goal.returns-in_err-judge_procedure
+unfolding code_of
+returns-in_err-judge_procedure c =
+    let p = err_from_is_err_and c.from_residual.result c.from_residual.ensures.1 in
+    rw (p.1, p.2) (sym (c.loop-own.invariant ∙ procedure_refused _ _ _ c.min-count.ensures (omega arith) _ c.loop-own-test.true c.part-code.ensures.result_value c.in_err-judge_procedure.ensures))
 
-pub returns-in-Refused : goal.returns-in-Refused
-unfolding procedure_in code_of
-returns-in-Refused c =
-    let room : length c.args.index.procedure_entries ≡ 128 = c.well_formed.1.0.1.1.1.1.1.1.1.0.1.0.1 in
-    let code_is : c.part-code.result.now ≡ code_of c.args.table.now (procedure_in c.args.index c.loop-p.p) = c.part-code.ensures.result_value in
-    sym (c.loop-p.invariant.1 ∙ pass_refused _ _ _ _ _ _ _ (passes_at c.args.index room _ c.if-index-p.false c.loop-p-test.true) (passes-entry c.args.index room _ c.if-index-p.false) (on_part _ _ _ _ _ _ _ code_is c.judge_procedure-verdict.ensures ∙ c.in-Refused.is))
-
-pub loop-p-preserved : goal.loop-p-preserved
-unfolding procedure_in code_of
-loop-p-preserved c =
-    let room : length c.args.index.procedure_entries ≡ 128 = c.well_formed.1.0.1.1.1.1.1.1.1.0.1.0.1 in
-    let code_is : c.part-code.result.now ≡ code_of c.args.table.now (procedure_in c.args.index c.loop-p.p) = c.part-code.ensures.result_value in
-    (omega arith, c.loop-p.invariant.1 ∙ pass_on _ _ _ _ _ _ (passes_at c.args.index room _ c.if-index-p.false c.loop-p-test.true) (passes-entry c.args.index room _ c.if-index-p.false) (on_part _ _ _ _ _ _ _ code_is c.judge_procedure-verdict.ensures ∙ c.in_default.is))
+pub loop-own-preserved : goal.loop-own-preserved
+unfolding code_of
+loop-own-preserved c = c.loop-own.invariant ∙ procedure_accepted _ _ _ c.min-count.ensures (omega arith) _ c.loop-own-test.true c.part-code.ensures.result_value c.in_ok-judge_procedure.ensures
 
 pub returns : goal.returns
-returns c =
-    let room : length c.args.index.procedure_entries ≡ 128 = c.well_formed.1.0.1.1.1.1.1.1.1.0.1.0.1 in
-    sym (c.loop-p.invariant.1 ∙ pass_end _ _ _ _ (passes_all c.args.index room _ c.loop-p-test.false))
+returns c = sym (c.loop-own.invariant ∙ procedures_done _ _ _ c.min-count.ensures (omega arith) _ c.loop-own-test.false)

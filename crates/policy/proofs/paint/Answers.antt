@@ -1,20 +1,16 @@
-use mathlib.Core.Path.{ap, ◌∙◌}
+use mathlib.Core.Path.{ap, refl, ◌∙◌}
 use native.Mathlib.Omega.{arith}
-use borrow.Author.Rules.{rules}
 use lib.ListN.{length}
 use Rattle.policy.specs.code.Grid.{painted_from}
 use Rattle.policy.proofs.Laws.{painted-length, range_none, range_next, range_past}
 use Rattle.policy.proofs.paint.Goals as goal
 
 pub loop-k-init : goal.loop-k-init
-loop-k-init c = (omega arith, omega arith, search rules, range_none _ _ _)
+loop-k-init c = (omega arith, refl, range_none _ _ _)
 
 pub loop-k-preserved : goal.loop-k-preserved
 unfolding painted_from
-loop-k-preserved c = let e = range_next _ _ _ _ _ _ (omega arith) (omega arith) c.loop-k.invariant.3 c.painted.ensures in (omega arith, omega arith, ap length e ∙ painted-length _ _ _, e)
-
-pub shape_of-grid : goal.shape_of-grid
-shape_of-grid c = c.loop-k.invariant.2
+loop-k-preserved c = let e = range_next _ _ _ _ _ _ (omega arith) (omega arith) c.loop-k.invariant.2 c.painted.ensures in (omega arith, ap length e ∙ painted-length _ _ _, e)
 
 pub returns : goal.returns
-returns c = c.loop-k.invariant.3 ∙ range_past _ _ _ _ _ (omega arith) (omega arith) (omega arith)
+returns c = c.loop-k.invariant.2 ∙ range_past _ _ _ _ _ (omega arith) (omega arith) (omega arith)

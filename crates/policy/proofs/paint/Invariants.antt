@@ -6,7 +6,4 @@ use Rattle.policy.specs.code.Grid.{painted_from}
 use Rattle.policy.proofs.paint.Given as goal
 
 abbrev pub invariant-loop-k : goal.invariant-loop-k
-invariant-loop-k l = (l.from ≤ l.k) × (l.k - l.from ≤ l.to - l.from) × (length l.grid ≡ length l.initial.grid) × (l.grid ≡ painted_from l.from l.k l.allow l.initial.grid)
-
-abbrev pub decreases-loop-k : goal.decreases-loop-k
-decreases-loop-k l = l.to - l.k
+invariant-loop-k l = (l.k - l.from ≤ l.to - l.from) × (length l.grid ≡ length l.initial.grid) × (l.grid ≡ painted_from l.from l.k l.allow l.initial.grid)

@@ -1,14 +1,11 @@
 -- The invariant: no pair before pair k is refused.
-use Prim.Native.Nat.{ℕ, ◌≤◌, ◌-◌}
+use Prim.Native.Nat.{ℕ}
 use mathlib.Core.Path.{◌≡◌}
 use mathlib.Core.Bool.{cond}
 use Rattle.laws.proofs.First.{from}
-use Rattle.table.specs.declared.Verdict.TheVariants.{Accepted, Refused}
+use Rattle.table.specs.Verdicts.{Accepted, Refused}
 use Rattle.policy.specs.code.Grid.{unruled_in, pairs_in}
 use Rattle.policy.proofs.pairs_verdict.Given as goal
 
 abbrev pub invariant-loop-k : goal.invariant-loop-k
-invariant-loop-k l = (l.k ≤ 256) × (pairs_in l.grid l.modules ≡ from Accepted Refused (λ (k : ℕ). cond (unruled_in l.grid l.modules k) 21 0) 256 l.k)
-
-abbrev pub decreases-loop-k : goal.decreases-loop-k
-decreases-loop-k l = 256 - l.k
+invariant-loop-k l = pairs_in l.grid l.modules ≡ from Accepted Refused (λ (k : ℕ). cond (unruled_in l.grid l.modules k) 21 0) 256 l.k

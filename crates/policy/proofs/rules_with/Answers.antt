@@ -1,22 +1,23 @@
 use mathlib.Core.Path.{sym, ap, ◌∙◌}
-use Rattle.table.specs.declared.Verdict.TheVariants.{Accepted}
+use Rattle.std.proofs.lemmas.Result.{err_from_is_err_and}
+use Rattle.table.specs.Verdicts.{Accepted}
 use Rattle.policy.specs.Policy.{rules_with}
-use Rattle.policy.proofs.Laws.{rules_count, grid_none, pairs-same, calls_same}
+use Rattle.policy.proofs.Laws.{rules_count, pairs-same, calls_same}
 use Rattle.policy.proofs.rules_with.Goals as goal
 
-pub returns-in-Refused : goal.returns-in-Refused
+pub returns-in_err-file_verdict : goal.returns-in_err-file_verdict
 unfolding rules_with
-returns-in-Refused c = rw (sym c.file_verdict-file.ensures ∙ c.in-Refused.is)
+returns-in_err-file_verdict c = let p = err_from_is_err_and c.from_residual.result c.from_residual.ensures.1 in rw (p.1, p.2, ← c.in_err-file_verdict.ensures)
 
-pub paint_all-requires : goal.paint_all-requires
-paint_all-requires c = let e = sym c.file_verdict-file.ensures ∙ c.in_default.is in (e ∙ ap Accepted (rules_count _ _ e), grid_none _)
+pub grid_of-grid-requires : goal.grid_of-grid-requires
+grid_of-grid-requires c = let e = sym c.in_ok-file_verdict.ensures in e ∙ ap Accepted (rules_count _ _ e)
 
-pub returns-in-Refused-pairs : goal.returns-in-Refused-pairs
+pub returns-in_err-pairs_verdict : goal.returns-in_err-pairs_verdict
 unfolding rules_with
-returns-in-Refused-pairs c = rw (sym c.file_verdict-file.ensures ∙ c.in_default.is, sym (c.pairs_verdict-pairs.ensures ∙ pairs-same _ _ _ c.paint_all.ensures) ∙ c.in-Refused-pairs.is)
+returns-in_err-pairs_verdict c = let p = err_from_is_err_and c.from_residual-in_err-pairs_verdict.result c.from_residual-in_err-pairs_verdict.ensures.1 in
+    rw (p.1, p.2, ← c.in_ok-file_verdict.ensures, sym (c.in_err-pairs_verdict.ensures ∙ pairs-same _ _ _ c.grid_of-grid.ensures))
 
 pub returns : goal.returns
 unfolding rules_with
-returns c = let e = sym c.file_verdict-file.ensures ∙ c.in_default.is in
-    rw (e, sym (c.pairs_verdict-pairs.ensures ∙ pairs-same _ _ _ c.paint_all.ensures) ∙ c.in_default-pairs.is)
-    (c.calls_verdict.ensures ∙ calls_same _ _ e _ _ _ c.paint_all.ensures)
+returns c = rw (← c.in_ok-file_verdict.ensures, sym (c.in_ok-pairs_verdict.ensures ∙ pairs-same _ _ _ c.grid_of-grid.ensures))
+    (c.calls_verdict.ensures ∙ calls_same _ _ (sym c.in_ok-file_verdict.ensures) _ _ _ c.grid_of-grid.ensures)

@@ -5,14 +5,14 @@ use Rattle.rows.specs.Rows.{uses_d, uses}
 use native.Mathlib.Omega.{arith}
 use Rattle.rows.proofs.uses_d.Goals as goal
 
-pub returns-then-row-ne-INSTRUCTION : goal.returns-then-row-ne-INSTRUCTION
-unfolding uses_d
-returns-then-row-ne-INSTRUCTION c = sym (never _ _ _ (no_d _ c.if-row-ne-INSTRUCTION.true))
-
 pub returns-then-row-eq-LOAD_CONST : goal.returns-then-row-eq-LOAD_CONST
 unfolding uses_d uses
-returns-then-row-eq-LOAD_CONST c = rw c.if-row-ne-INSTRUCTION.false (sym (constant _ (omega arith) ∙ rw (eq-eqb _ _ c.if-row-eq-LOAD_CONST.true)))
+returns-then-row-eq-LOAD_CONST c = rw (c.if-row-eq-INSTRUCTION.true, constant c.args.row.a (omega arith), eq-eqb _ _ c.if-row-eq-LOAD_CONST.true)
 
-pub returns : goal.returns
+pub returns-else-row-eq-LOAD_CONST : goal.returns-else-row-eq-LOAD_CONST
 unfolding uses_d uses
-returns c = rw c.if-row-ne-INSTRUCTION.false (sym (constant _ (omega arith) ∙ rw (ne_eqb _ _ c.if-row-eq-LOAD_CONST.false)))
+returns-else-row-eq-LOAD_CONST c = rw (c.if-row-eq-INSTRUCTION.true, constant c.args.row.a (omega arith), ne_eqb _ _ c.if-row-eq-LOAD_CONST.false)
+
+pub returns-else-row-eq-INSTRUCTION : goal.returns-else-row-eq-INSTRUCTION
+unfolding uses_d
+returns-else-row-eq-INSTRUCTION c = rw (ne_eqb _ _ c.if-row-eq-INSTRUCTION.false) (sym (never _ _ _ (no_d _ c.if-row-eq-INSTRUCTION.false)))

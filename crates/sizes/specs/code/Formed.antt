@@ -1,6 +1,6 @@
 -- A table that the passes length, rows and names accept.
 use Rattle.std.specs.Prelude.{ℕ, ◌≡◌, List}
-use Rattle.table.specs.declared.Verdict.TheVariants.{Accepted}
+use Rattle.table.specs.Verdicts.{Accepted}
 use Rattle.table.specs.Rows.{row_count}
 use Rattle.rows.specs.Rows.{length_of, rows_of}
 use Rattle.names.specs.Names.{names_of}

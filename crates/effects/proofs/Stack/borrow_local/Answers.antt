@@ -3,19 +3,9 @@ use mathlib.Core.Path.{sym, ◌∙◌}
 use native.Mathlib.Omega.{arith}
 use borrow.Author.Tests.{leb-false}
 use Rattle.declarations.specs.Program.{is_reference}
-use Rattle.effects.specs.Kinds.{taken_all, pushed_all}
-use Rattle.effects.specs.Effects.{applied}
 use Rattle.effects.proofs.Stack.borrow_local.Goals as goal
-
-pub returns-then-is_reference : goal.returns-then-is_reference
-unfolding applied taken_all pushed_all
-returns-then-is_reference c = rw (← c.local_kind-k.ensures, ← c.is_reference.ensures, c.if-is_reference.true) (c.fail.ensures _)
 
 -- a kind that is no reference leaves room for one
 pub overflow_add-k : goal.overflow_add-k
 unfolding is_reference
 overflow_add-k c = omega (arith, leb-false 2 (c.local_kind-k.result % 8) (sym c.is_reference.ensures ∙ c.if-is_reference.false))
-
-pub returns : goal.returns
-unfolding applied taken_all pushed_all
-returns c = rw (← c.local_kind-k.ensures, ← c.is_reference.ensures, c.if-is_reference.false) c.push.ensures

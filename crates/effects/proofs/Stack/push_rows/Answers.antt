@@ -1,10 +1,7 @@
-use mathlib.Core.Path.{refl, sym, ◌∙◌}
+use mathlib.Core.Path.{sym, ◌∙◌}
 use Rattle.effects.specs.Kinds.{pushed_all}
 use Rattle.effects.proofs.Laws.{kinds-none, kinds-first}
 use Rattle.effects.proofs.Stack.push_rows.Goals as goal
-
-pub loop-i-init : goal.loop-i-init
-loop-i-init c = refl
 
 pub loop-i-preserved : goal.loop-i-preserved
 unfolding pushed_all

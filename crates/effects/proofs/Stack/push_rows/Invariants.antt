@@ -1,5 +1,4 @@
 -- The invariant: the kinds of the rows from i on, pushed now, give what all of them give, pushed at the start.
-use Prim.Native.Nat.{◌-◌}
 use mathlib.Core.Path.{◌≡◌}
 use Rattle.declarations.specs.Program.{kinds_of}
 use Rattle.effects.specs.Kinds.{view, pushed_all}
@@ -7,6 +6,3 @@ use Rattle.effects.proofs.Stack.push_rows.Given as goal
 
 abbrev pub invariant-loop-i : goal.invariant-loop-i
 invariant-loop-i l = pushed_all (kinds_of l.table l.from l.to) (view l.initial.kinds l.initial.stack) ≡ pushed_all (kinds_of l.table l.i l.to) (view l.kinds l.stack)
-
-abbrev pub decreases-loop-i : goal.decreases-loop-i
-decreases-loop-i l = l.to - l.i

@@ -1,8 +1,7 @@
 use mathlib.Core.Path.{◌∙◌}
 use Rattle.effects.specs.Kinds.{taken_all, pushed_all}
 use Rattle.effects.specs.Effects.{effects, applied}
-use Rattle.laws.proofs.Cases.{above}
-use Rattle.table.specs.Format.{past_opcodes}
+use native.Mathlib.Omega.{arith}
 use Rattle.effects.proofs.Laws.{listed, unlisted}
 use Rattle.effects.proofs.Stack.step.Goals as goal
 
@@ -92,4 +91,4 @@ returns-in-20 c = c.freeze.ensures ∙ listed _ _ _ _ _ _ 20 c.in-20.is
 
 pub returns-in-21-to-255 : goal.returns-in-21-to-255
 unfolding effects applied taken_all pushed_all
-returns-in-21-to-255 c = c.fail.ensures _ ∙ unlisted _ _ _ _ _ _ (above past_opcodes _ c.in-21-to-255.in-21-to-255-own.rest)
+returns-in-21-to-255 c = c.fail.ensures _ ∙ unlisted _ _ _ _ _ _ (omega arith)

@@ -7,6 +7,3 @@ use Rattle.effects.proofs.Stack.take_rows.Given as goal
 
 abbrev pub invariant-loop-i : goal.invariant-loop-i
 invariant-loop-i l = (l.i ≤ l.to) × (min l.from l.to ≤ l.i) × (view l.kinds l.stack ≡ taken_all (kinds_of l.table l.i l.to) (view l.kinds l.initial.stack))
-
-abbrev pub decreases-loop-i : goal.decreases-loop-i
-decreases-loop-i l = l.i

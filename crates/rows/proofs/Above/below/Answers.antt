@@ -1,9 +1,6 @@
 use borrow.Author.Tests.{eq-eqb, ne_eqb}
-use lib.ListN.{get_or}
-use mathlib.Core.Path.{◌≡◌}
-use mathlib.Core.List.{[], ◌∷◌}
 use Prim.Native.Nat.{◌<◌}
-use Rattle.rows.proofs.Laws.{no_kind, count_kept, own-count}
+use Rattle.rows.proofs.Laws.{below_no_kind, own-count}
 use Rattle.laws.specs.Lists.{member}
 use Rattle.rows.specs.Rows.{below_row, count_below, owned, count_of}
 use native.Mathlib.Omega.{arith}
@@ -70,6 +67,4 @@ unfolding below_row count_below owned member
 returns-in-7 c = rw c.in-7.is
 
 pub returns-in_default : goal.returns-in_default
-unfolding below_row owned
-returns-in_default c = let e : get_or owned c.args.row.kind [] ≡ [] = no_kind [] [] (3 ∷ []) [] (5 ∷ 6 ∷ 7 ∷ []) [] [] [] _ c.in_default.in_default-own.rest.0.0.0.0.0.0.1 c.in_default.in_default-own.rest.0.0.0.0.0.1 c.in_default.in_default-own.rest.0.0.0.0.1 c.in_default.in_default-own.rest.0.0.0.1 c.in_default.in_default-own.rest.0.0.1 c.in_default.in_default-own.rest.0.1 c.in_default.in_default-own.rest.1 in
-    rw (count_kept 1 _ _ c.in_default.in_default-own.rest.0.0.0.0.0.0.1 e, count_kept 2 _ _ c.in_default.in_default-own.rest.0.0.0.0.0.1 e, count_kept 3 _ _ c.in_default.in_default-own.rest.0.0.0.0.1 e, count_kept 4 _ _ c.in_default.in_default-own.rest.0.0.0.1 e, count_kept 5 _ _ c.in_default.in_default-own.rest.0.0.1 e, count_kept 6 _ _ c.in_default.in_default-own.rest.0.1 e, count_kept 7 _ _ c.in_default.in_default-own.rest.1 e, ne_eqb _ 1 c.in_default.in_default-own.rest.0.0.0.0.0.0.1, ne_eqb _ 4 c.in_default.in_default-own.rest.0.0.0.1, ne_eqb _ 5 c.in_default.in_default-own.rest.0.0.1)
+returns-in_default c = let out : 0 < c.args.row.kind → 7 < c.args.row.kind = λ h. omega arith in rw (below_no_kind c.args.self c.args.row out)

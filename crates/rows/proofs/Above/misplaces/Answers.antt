@@ -1,18 +1,12 @@
-use Rattle.rows.proofs.Laws.{follow, follow-none}
-use borrow.Author.Tests.{lt-ltb, le-ltb}
-use mathlib.Core.Path.{sym, ◌∙◌}
-use Rattle.rows.specs.Rows.{misplaced}
 use native.Mathlib.Omega.{arith}
+use borrow.Author.Tests.{lt-ltb, le-ltb}
+use Rattle.rows.specs.Rows.{misplaced}
 use Rattle.rows.proofs.Above.misplaces.Goals as goal
 
-pub returns-then-kind-gt7 : goal.returns-then-kind-gt7
+pub returns-then-self-kind : goal.returns-then-self-kind
 unfolding misplaced
-returns-then-kind-gt7 c = sym (follow-none _ _ c.if-kind-gt7.true)
+returns-then-self-kind c = rw (← c.kind_of-kind.ensures.follows c.args.self.kind (omega arith), lt-ltb _ _ c.if-self-kind.true)
 
-pub returns-then-self-k : goal.returns-then-self-k
+pub returns-else-self-kind : goal.returns-else-self-kind
 unfolding misplaced
-returns-then-self-k c = sym (follow _ _ (omega arith) (omega arith) ∙ rw (lt-ltb _ _ c.if-self-k.true))
-
-pub returns : goal.returns
-unfolding misplaced
-returns c = sym (follow _ _ (omega arith) (omega arith) ∙ rw (le-ltb _ _ c.if-self-k.false))
+returns-else-self-kind c = rw (← c.kind_of-kind.ensures.follows c.args.self.kind (omega arith), le-ltb _ _ c.if-self-kind.false)

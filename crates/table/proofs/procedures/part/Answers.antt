@@ -4,7 +4,7 @@ use mathlib.Core.Bool.{false}
 use Rattle.table.specs.Procedures.{rows_between, place_in, in_table}
 use Rattle.table.proofs.Laws.{not-in_order, past_table, part_inside, start-inside, part_outside, start_outside}
 use Rattle.table.proofs.procedures.part.Goals as goal
-use Rattle.table.proofs.procedures.part.Goals.{else-from-to, then-from-to+else-to-n}
+use Rattle.table.proofs.procedures.part.Goals.{else-from-to-via-else-from-to, else-from-to-via-then-from-to+else-to-n}
 
 pub returns-then-to-n : goal.returns-then-to-n
 unfolding rows_between
@@ -15,5 +15,5 @@ returns-then-to-n c =
 
 pub returns : goal.returns
 returns c =
-    let out : in_table c.args.table.now c.args.from c.args.to ≡ false = elim c.if-from-to.branch [ then-from-to+else-to-n w ↦ past_table _ _ _ w.if-from-to.true w.if-to-n.false | else-from-to w ↦ not-in_order _ _ _ w.if-from-to.false ] in
+    let out : in_table c.args.table.now c.args.from c.args.to ≡ false = elim c.else-from-to.branch [ else-from-to-via-then-from-to+else-to-n w ↦ past_table _ _ _ w.if-from-to.true w.if-to-n.false | else-from-to-via-else-from-to w ↦ not-in_order _ _ _ w.if-from-to.false ] in
     record { result_value = sym (part_outside _ _ _ out); ref_ptr_value = ap (place_in _) (sym (start_outside _ _ _ out)) }

@@ -1,5 +1,5 @@
 -- The invariant: what is left of p and the procedures above row i make p.
-use Prim.Native.Nat.{◌≤◌, ◌+◌, ◌-◌}
+use Prim.Native.Nat.{◌≤◌, ◌+◌}
 use mathlib.Core.Path.{◌≡◌}
 use Rattle.laws.specs.Lists.{count}
 use Rattle.table.specs.Format.{procedure_kind}
@@ -8,6 +8,3 @@ use Rattle.table.proofs.procedures.procedure_row.Given as goal
 
 abbrev pub invariant-loop-i : goal.invariant-loop-i
 invariant-loop-i l = (l.i ≤ l.n) × (l.p ≡ l.left + count (is_kind l.table procedure_kind) l.i)
-
-abbrev pub decreases-loop-i : goal.decreases-loop-i
-decreases-loop-i l = l.n - l.i
