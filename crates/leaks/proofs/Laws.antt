@@ -1,10 +1,8 @@
 -- Laws of marked operands, and of the faults that follow from them.
 use Prim.Native.Nat.{ℕ, zero, suc, ◌+◌, ◌-◌, ◌<◌, ◌≤◌}
 use mathlib.Core.Path.{◌≡◌, refl, sym, ap, ◌∙◌}
-use mathlib.Core.Bool.{Bool, true, false, cond, ◌&&◌, or-true, false≢true}
-use mathlib.Core.List.{List, [], ◌∷◌, ◌++◌}
-use native.Mathlib.Decide.{dec_lt}
-use native.Mathlib.Nat.{add-zero}
+use mathlib.Core.Bool.{Bool, true, false, cond, ◌&&◌, ◌||◌}
+use mathlib.Core.List.{List, ◌∷◌, ◌++◌}
 use native.Mathlib.Omega.{arith}
 use lib.Dec.{eqb}
 use lib.ListN.{length, take, replicate, length-replicate, length-append}
@@ -37,34 +35,22 @@ length_prefix n m a h = ap length (take-replicate n m a h) ∙ length-replicate 
 pub prefix_there : {A : Type 0} (xs ys : List A) (n : ℕ) → length xs ≡ n → n ≤ length (xs ++ ys)
 prefix_there xs ys n e = omega (arith, e, length-append xs ys)
 
--- marked operands
-module _ (marked : ℕ → Bool) where
-  pub some-none : some_marked marked [] ≡ false
+-- marked operands that rows declare
+module _ (marked : ℕ → Bool) (t : List ℕ) (j to : ℕ) where
+  pub some_none : to ≤ j → some_marked marked (kinds_of t j to) ≡ false
   unfolding some_marked
-  some-none = refl
+  some_none h = rw (kinds-none t j to h) refl
 
-  pub some_first : (k : ℕ) (ks : List ℕ) → (eqb k number_ref && marked (length ks)) ≡ true → some_marked marked (k ∷ ks) ≡ true
-  unfolding some_marked
-  some_first k ks e = rw e
+  module _ {row : Row} {b : Bool} (below : j < to) (e : row ≡ row_at t j) (is : b ≡ (eqb (row_kind row) number_ref && marked (to - 1 - j))) where
+    first : some_marked marked (kinds_of t j to) ≡ (b || some_marked marked (kinds_of t (j + 1) to))
+    unfolding some_marked
+    first = let z : to - 1 - j ≡ to - (j + 1) = omega arith in rw (is, kinds-first t j to below, length-kinds t (j + 1) to, z, e) refl
 
-  pub some_next : (k : ℕ) (ks : List ℕ) → (eqb k number_ref && marked (length ks)) ≡ false → some_marked marked ks ≡ false → some_marked marked (k ∷ ks) ≡ false
-  unfolding some_marked
-  some_next k ks e h = rw (e, h)
+    pub some_here : b ≡ true → some_marked marked (kinds_of t j to) ≡ true
+    some_here h = first ∙ (rw h refl)
 
-  -- what rows declare has a marked one if the last of them do
-  pub some-later : (t : List ℕ) (d from to : ℕ) → some_marked marked (kinds_of t (from + d) to) ≡ true → some_marked marked (kinds_of t from to) ≡ true
-  unfolding some_marked
-  some-later t zero from to e = rw (add-zero from) at e
-  some-later t (suc d) from to e = go (dec_lt from to) (some-later t d (from + 1) to (let s : from + suc d ≡ from + 1 + d = omega arith in rw s at e))
-    where
-      go : Dec (from < to) → some_marked marked (kinds_of t (from + 1) to) ≡ true → some_marked marked (kinds_of t from to) ≡ true
-      go (yes h) later = rw (kinds-first t from to h, later) (or-true (eqb (row_kind (row_at t from)) number_ref && marked (length (kinds_of t (from + 1) to))))
-      go (no h) later = absurd (false≢true (rw (kinds-none t (from + suc d) to (omega arith)) at e))
-
-  -- the operand that the row before row j declares, under those of the rows from j on
-  pub row-marked : (t : List ℕ) (j to : ℕ) (row : Row) {b : Bool} → row ≡ row_at t (j - 1) → 0 < j → j ≤ to → b ≡ (eqb (row_kind row) number_ref && marked (to - 1 - (j - 1)))
-      → (eqb (row_kind (row_at t (j - 1))) number_ref && marked (length (kinds_of t j to))) ≡ b
-  row-marked t j to row e some low h = let z : to - 1 - (j - 1) ≡ to - j = omega arith in rw (length-kinds t j to, ← e, ← z) (sym h)
+    pub some_later : b ≡ false → some_marked marked (kinds_of t j to) ≡ some_marked marked (kinds_of t (j + 1) to)
+    some_later h = first ∙ (rw h refl)
 
 -- the fault of an instruction, from what the code has of it
 pub fault_is :

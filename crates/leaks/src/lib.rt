@@ -1,10 +1,9 @@
 // The leaks pass: refusals 13 and 14.
 #![tactic(auto)]
 
-ghost use Rattle.std.specs.Prelude.{◌≡◌, cond, not, ◌&&◌, ◌≤◌, eqb};
+ghost use Rattle.std.specs.Prelude.{◌≡◌, not, ◌&&◌, ◌*◌, ◌≤◌, eqb};
 ghost use Rattle.table.specs.Rows.{row_count};
 ghost use Rattle.table.specs.Index.{index_of};
-ghost use Rattle.table.specs.Refusals.{mark_given, mark_returned};
 ghost use Rattle.declarations.specs.Program.{number, number_ref, row_kind, kinds_of, code_of, code_verdict, parameter_kinds, result_kinds};
 ghost use Rattle.effects.specs.Effects.{effect_of};
 ghost use Rattle.sizes.specs.code.Formed.{Formed};
@@ -12,32 +11,27 @@ ghost use Rattle.helpers.specs.Tables.{is_private, is_helper};
 ghost use Rattle.leaks.specs.Leaks.{trusted_at, some_marked, leak_from, leak_in, leaks_of};
 ghost use Rattle.leaks.specs.code.Read.{marked_at, marked_in, read_pass};
 
+use entries::RowEntry;
 use table::index::{Index, ProcedureEntry, TypeEntry};
 use table::{Row, Verdict, format, refusals};
 
 // Whether the operand that a row declares, with so many above it, is a writable reference to a number and marked on arriving at row `at`.
+#[tactic(auto, unfolding(crate::specs::code::Read::marked_at))]
 fn is_marked(nodes: &[bool], at: usize, row: Row, above: usize) -> bool
     requires { (at ≤ 131072) × (above ≤ 65536) }
     ensures { result ≡ (eqb (row_kind row) number_ref && marked_at nodes.now at above) }
 {
-    if declarations::row_kind(row) != declarations::NUMBER_REF {
-        return false;
-    }
-    let node = 32 * at + (16 + above);
-    if node < nodes.len() {
-        return nodes[node];
-    }
-    false
+    declarations::row_kind(row) == declarations::NUMBER_REF
+        && nodes.get(32 * at + (16 + above)).copied().unwrap_or(false)
 }
 
 // Whether some one of the operands that the rows from `from` to before `to` declare, the last on top, is such a one.
+#[tactic(auto, using(crate::proofs::Laws::some_here, crate::proofs::Laws::some_later, crate::proofs::Laws::some_none))]
 fn some_marked(table: &[u8], nodes: &[bool], at: usize, from: usize, to: usize) -> bool
     requires { (at ≤ 131072) × (to ≤ 65536) }
     ensures { result ≡ some_marked (marked_at nodes.now at) (kinds_of table.now from to) }
 {
-    let mut j = to;
-    while from < j {
-        j -= 1;
+    for j in from..to {
         if is_marked(nodes, at, table::row_at(table, j), to - 1 - j) {
             return true;
         }
@@ -45,42 +39,35 @@ fn some_marked(table: &[u8], nodes: &[bool], at: usize, from: usize, to: usize) 
     false
 }
 
-// 13: a marked reference given to a procedure that is no helper.
+// 13: whether a marked reference is given to a procedure that is no helper.
+#[tactic(auto, unfolding(declarations::specs::Program::parameter_kinds))]
 fn gives_mark(
     table: &[u8],
     nodes: &[bool],
     own: ProcedureEntry,
     callee: ProcedureEntry,
     at: usize,
-) -> u8
+) -> bool
     requires { at ≤ 131072 }
-    ensures { result ≡ cond (not (is_helper table.now own callee) && some_marked (marked_at nodes.now at) (parameter_kinds table.now callee)) mark_given 0 }
+    ensures { result ≡ (not (is_helper table.now own callee) && some_marked (marked_at nodes.now at) (parameter_kinds table.now callee)) }
 {
-    if entries::is_helper(table, own, callee) {
-        return 0;
-    }
     let end = declarations::parameters_end(table, callee);
-    if some_marked(table, nodes, at, (callee.row as usize) + 1, end) {
-        return refusals::MARK_GIVEN;
-    }
-    0
+    !entries::is_helper(table, own, callee)
+        && some_marked(table, nodes, at, (callee.row as usize) + 1, end)
 }
 
-// 14: a marked reference that a procedure returns which is not private.
-fn returns_mark(table: &[u8], nodes: &[bool], own: ProcedureEntry, at: usize) -> u8
+// 14: whether a procedure that is not private returns a marked reference.
+#[tactic(auto, unfolding(declarations::specs::Program::result_kinds))]
+fn returns_mark(table: &[u8], nodes: &[bool], own: ProcedureEntry, at: usize) -> bool
     requires { at ≤ 131072 }
-    ensures { result ≡ cond (not (is_private table.now own) && some_marked (marked_at nodes.now at) (result_kinds table.now own)) mark_returned 0 }
+    ensures { result ≡ (not (is_private table.now own) && some_marked (marked_at nodes.now at) (result_kinds table.now own)) }
 {
-    if entries::is_private(table, own) {
-        return 0;
-    }
-    if some_marked(table, nodes, at, own.results as usize, own.code as usize) {
-        return refusals::MARK_RETURNED;
-    }
-    0
+    !entries::is_private(table, own)
+        && some_marked(table, nodes, at, own.results as usize, own.code as usize)
 }
 
 // The number that the instruction at row `at` earns, or 0. `callee` is the procedure that its operand names; a type that it names does not matter.
+#[tactic(auto, unfolding(crate::specs::Leaks::leak_in, effects::specs::Effects::effect_of, effects::specs::Effects::effects))]
 fn fault_at(
     table: &[u8],
     nodes: &[bool],
@@ -92,13 +79,11 @@ fn fault_at(
     requires { at ≤ 131072 }
     ensures { (named : TypeEntry) → result ≡ leak_in (marked_at nodes.now at) row.a (is_helper table.now own callee) (is_private table.now own) (effect_of table.now own named callee row number).takes }
 {
-    if row.a == format::CALL {
-        return gives_mark(table, nodes, own, callee, at);
+    match row.a {
+        format::CALL if gives_mark(table, nodes, own, callee, at) => refusals::MARK_GIVEN,
+        format::RET if returns_mark(table, nodes, own, at) => refusals::MARK_RETURNED,
+        _ => 0,
     }
-    if row.a == format::RET {
-        return returns_mark(table, nodes, own, at);
-    }
-    0
 }
 
 // The instructions of a procedure, whose code is the part `code`.
@@ -165,31 +150,26 @@ fn judge_marks(table: &[u8], nodes: &[bool], index: Index) -> Verdict
     Verdict::Accepted(rows)
 }
 
-// A table of at most 256 rows, and one of at most 2,048: each clears no more room than it may need.
-fn judge_small(table: &[u8], index: Index) -> Verdict
-    requires { Formed table.now × (index ≡ index_of table.now) × (row_count table.now ≤ 256) }
+// Judges a table of at most ROWS rows, in room for so many, and NODES nodes. Not inlined: the room of the large one is to be no part of the frame of every judgement.
+#[inline(never)]
+fn judge_in<const ROWS: usize, const NODES: usize>(table: &[u8], index: Index) -> Verdict
+    requires { Formed table.now × (index ≡ index_of table.now) × (row_count table.now ≤ ROWS) × (32 * ROWS ≤ NODES) × (NODES ≤ 65536) }
     ensures { result ≡ leaks_of table.now }
 {
     let n = table.len() / format::ROW_BYTES;
-    let mut visited = [false; 8192];
-    let mut queue = [0u16; 8192];
-    let mut takes = [0u16; 256];
-    let mut gives = [0u16; 256];
-    let mut base = [0u16; 256];
-    let mut sends = [0u16; 256];
-    let mut before = [0u16; 256];
-    let mut last = [0u16; 128];
-    let mut arrives = [false; 256];
+    let mut visited = [false; NODES];
+    let mut queue = [0u16; NODES];
+    let mut entries = [RowEntry::NONE; ROWS];
+    let mut before = [0u16; ROWS];
+    let mut last = [0u16; format::MAX_PROCEDURES];
+    let mut arrives = [false; ROWS];
     let end = 32 * n;
     marks::find(
         table,
         index,
         &mut visited[..end],
         &mut queue,
-        &mut takes[..n],
-        &mut gives[..n],
-        &mut base[..n],
-        &mut sends[..n],
+        &mut entries[..n],
         &mut before[..n],
         &mut last,
         &mut arrives[..n],
@@ -197,57 +177,18 @@ fn judge_small(table: &[u8], index: Index) -> Verdict
     judge_marks(table, &visited[..end], index)
 }
 
-// The room of the large one is to be no part of the frame of every judgement, so it must not be inlined: for that it has a test of its own, which no table fails that the pass
-// `length` accepts, and `leaks_with` calls it in two places.
-fn judge_large(table: &[u8], index: Index) -> Verdict
-    requires { Formed table.now × (index ≡ index_of table.now) }
-    ensures { result ≡ leaks_of table.now }
-{
-    let n = table.len() / format::ROW_BYTES;
-    if format::MAX_ROWS < n {
-        return Verdict::Refused(refusals::BAD_LENGTH, 0);
-    }
-    let mut visited = [false; 65536];
-    let mut queue = [0u16; 65536];
-    let mut takes = [0u16; 2048];
-    let mut gives = [0u16; 2048];
-    let mut base = [0u16; 2048];
-    let mut sends = [0u16; 2048];
-    let mut before = [0u16; 2048];
-    let mut last = [0u16; 128];
-    let mut arrives = [false; 2048];
-    let end = 32 * n;
-    marks::find(
-        table,
-        index,
-        &mut visited[..end],
-        &mut queue,
-        &mut takes[..n],
-        &mut gives[..n],
-        &mut base[..n],
-        &mut sends[..n],
-        &mut before[..n],
-        &mut last,
-        &mut arrives[..n],
-    );
-    judge_marks(table, &visited[..end], index)
-}
-
-// The leaks pass over a table that the passes length, rows and names accept, with its own index. Where no mark is made there is no search, and no room for one is cleared.
+// The leaks pass over a table that the passes length, rows and names accept, with its own index. Where no mark is made there is no search, and no room for one is cleared;
+// else no more room than the table may need.
 pub fn leaks_with(table: &[u8], index: Index) -> Verdict
     requires { Formed table.now × (index ≡ index_of table.now) }
     ensures { result ≡ leaks_of table.now }
 {
     let n = table.len() / format::ROW_BYTES;
     if !entries::makes_some(table, index) {
-        return Verdict::Accepted(n);
+        Verdict::Accepted(n)
+    } else if n <= 256 {
+        judge_in::<256, 8192>(table, index)
+    } else {
+        judge_in::<2048, 65536>(table, index)
     }
-    // Two calls, so that it is not inlined: see `judge_large`.
-    if 1024 < n {
-        return judge_large(table, index);
-    }
-    if 256 < n {
-        return judge_large(table, index);
-    }
-    judge_small(table, index)
 }

@@ -30,9 +30,9 @@ unfolding kinds_of
 length-kinds t from to = length_from t from (to - from)
 
 -- a procedure has at most as many parameters as locals
-pub parameters-few : (t : List ℕ) (p : ProcedureEntry) → parameters_end t p - (p.row + 1) ≤ p.results - (p.row + 1)
+pub parameters_few : (t : List ℕ) (p : ProcedureEntry) → parameters_end t p - (p.row + 1) ≤ p.results - (p.row + 1)
 unfolding parameters_end
-parameters-few t p = omega (arith, find-within (λ (i : ℕ). not (is_parameter t i)) (p.row + 1) (p.results - (p.row + 1)))
+parameters_few t p = omega (arith, find-within (λ (i : ℕ). not (is_parameter t i)) (p.row + 1) (p.results - (p.row + 1)))
 
 -- what the row's instruction takes and pushes, by its opcode
 module _ (t : List ℕ) (own : ProcedureEntry) (named : TypeEntry) (callee : ProcedureEntry) (row : Row) where
