@@ -11,7 +11,7 @@ ghost use Rattle.interpreter.specs.code.Run.{same_by, run_from, same_from};
 ghost use Rattle.interpreter.specs.code.Calls.{carried, kept, kept_of, kept_since, freed, filled, begun, restored_to, same_restored, call_turn, same_call};
 
 use state::frames::State;
-use state::stops;
+use state::stops::Stop;
 use table::index::{Index, ProcedureEntry};
 use table::{Row, format};
 
@@ -79,7 +79,7 @@ pub fn run(s: State, cells: &mut [u64], table: &[u8], index: Index, budget: u32)
         left = marked_by(left, row.a);
     }
     Ran {
-        state: now.stopped(stops::BUDGET_SPENT),
+        state: now.stopped(Stop::BudgetSpent),
         same: is_unmarked(left),
     }
 }
@@ -183,7 +183,7 @@ fn restore(ran: Ran, cells: &mut [u64], saved: &[u64], first: State) -> Ran
         return ran;
     }
     let s = ran.state;
-    if s.stop == stops::DONE {
+    if s.stop == Stop::Done {
         return ran;
     }
     keep_memory(cells, saved, first);

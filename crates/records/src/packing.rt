@@ -5,7 +5,8 @@ ghost use Rattle.frame.specs.code.Turning.{after};
 ghost use Rattle.records.specs.code.Packing.{packed_state, packed_in, pack_of, unpacked_state, unpacked_from, unpack_of};
 
 use state::frames::State;
-use state::{Operand, rooms, stops};
+use state::{Operand, rooms};
+use state::stops::Stop;
 use table::index::TypeEntry;
 
 // The state after a record was made in room r.
@@ -52,7 +53,7 @@ pub fn pack(s: State, cells: &mut [u64], named: TypeEntry, b: u16) -> State
 {
     let r = rooms::free_room(cells, s.free);
     if 128 <= r {
-        return s.stopped(stops::TOO_MANY_RECORDS);
+        return s.stopped(Stop::TooManyRecords);
     }
     pack_in(
         s,
@@ -78,7 +79,7 @@ fn unpack_from(s: State, cells: &mut [u64], c: u32, m: u8) -> State
     ensures { after result (cells_of cells.new) ≡ unpacked_from (cells_of cells.old) s c m }
 {
     if !rooms::is_live(cells, c, m) {
-        return s.stopped(stops::BROKEN);
+        return s.stopped(Stop::Broken);
     }
     let o = rooms::room_cell(m);
     let k = state::second_at(cells, o as usize);
@@ -93,9 +94,9 @@ pub fn unpack(s: State, cells: &mut [u64]) -> State
 {
     let top = s.top(cells, 0);
     match top {
-        Operand::Empty => s.stopped(stops::BROKEN),
-        Operand::Number(_) => s.stopped(stops::BROKEN),
+        Operand::Empty => s.stopped(Stop::Broken),
+        Operand::Number(_) => s.stopped(Stop::Broken),
         Operand::Record(c, m, _) => unpack_from(s, cells, c, m),
-        Operand::Refer(_) => s.stopped(stops::BROKEN),
+        Operand::Refer(_) => s.stopped(Stop::Broken),
     }
 }

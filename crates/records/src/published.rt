@@ -8,7 +8,8 @@ ghost use Rattle.frame.specs.code.Turning.{after};
 ghost use Rattle.records.specs.code.Published.{with_entries, found, record_at, reference_at, published_as, move_to_of, taken_out, move_from_of, global_at, global_of, exists_of};
 
 use state::frames::State;
-use state::{Operand, entries, stops};
+use state::{Operand, entries};
+use state::stops::Stop;
 
 // The state with n entries in the store.
 fn with_entries(mut s: State, n: u8) -> State
@@ -39,10 +40,10 @@ fn publish(s: State, cells: &mut [u64], y: u8, c: u32, m: u8) -> State
 {
     let n = s.entries;
     if found(s, cells, y) < n {
-        return s.stopped(stops::KEY_TAKEN);
+        return s.stopped(Stop::KeyTaken);
     }
     if entries::ENTRIES <= n {
-        return s.stopped(stops::TOO_MANY_ENTRIES);
+        return s.stopped(Stop::TooManyEntries);
     }
     entries::put_entry(cells, n, y, s.number(cells, 0), c, m);
     with_entries(s, n + 1).drop_top(2).next()
@@ -53,14 +54,14 @@ pub fn move_to(s: State, cells: &mut [u64], b: u16) -> State
     ensures { after result (cells_of cells.new) ≡ move_to_of (cells_of cells.old) s b }
 {
     if !s.has_number(cells, 0) {
-        return s.stopped(stops::BROKEN);
+        return s.stopped(Stop::Broken);
     }
     let x = s.top(cells, 1);
     match x {
-        Operand::Empty => s.stopped(stops::BROKEN),
-        Operand::Number(_) => s.stopped(stops::BROKEN),
+        Operand::Empty => s.stopped(Stop::Broken),
+        Operand::Number(_) => s.stopped(Stop::Broken),
         Operand::Record(c, m, _) => publish(s, cells, (b % 256) as u8, c, m),
-        Operand::Refer(_) => s.stopped(stops::BROKEN),
+        Operand::Refer(_) => s.stopped(Stop::Broken),
     }
 }
 
@@ -70,7 +71,7 @@ fn withdraw(s: State, cells: &mut [u64], y: u8, i: u8) -> State
 {
     let n = s.entries;
     if n <= i {
-        return s.stopped(stops::NO_SUCH_KEY);
+        return s.stopped(Stop::NoSuchKey);
     }
     let w = entry_word(cells, i, y);
     entries::remove_entry(cells, n, i);
@@ -82,7 +83,7 @@ pub fn move_from(s: State, cells: &mut [u64], b: u16) -> State
     ensures { after result (cells_of cells.new) ≡ move_from_of (cells_of cells.old) s b }
 {
     if !s.has_number(cells, 0) {
-        return s.stopped(stops::BROKEN);
+        return s.stopped(Stop::Broken);
     }
     let y = (b % 256) as u8;
     withdraw(s, cells, y, found(s, cells, y))
@@ -93,7 +94,7 @@ fn borrow_entry(s: State, cells: &mut [u64], y: u8, i: u8) -> State
     ensures { after result (cells_of cells.new) ≡ global_at (cells_of cells.old) s y i }
 {
     if s.entries <= i {
-        return s.stopped(stops::NO_SUCH_KEY);
+        return s.stopped(Stop::NoSuchKey);
     }
     frame::operations::settle(s, cells, 1, state::TO_RECORD, entry_word(cells, i, y))
 }
@@ -103,7 +104,7 @@ pub fn borrow_global(s: State, cells: &mut [u64], b: u16) -> State
     ensures { after result (cells_of cells.new) ≡ global_of (cells_of cells.old) s b }
 {
     if !s.has_number(cells, 0) {
-        return s.stopped(stops::BROKEN);
+        return s.stopped(Stop::Broken);
     }
     let y = (b % 256) as u8;
     borrow_entry(s, cells, y, found(s, cells, y))
@@ -121,7 +122,7 @@ pub fn exists(s: State, cells: &mut [u64], b: u16) -> State
     ensures { after result (cells_of cells.new) ≡ exists_of (cells_of cells.old) s b }
 {
     if !s.has_number(cells, 0) {
-        return s.stopped(stops::BROKEN);
+        return s.stopped(Stop::Broken);
     }
     let r = below(found(s, cells, (b % 256) as u8), s.entries);
     frame::operations::settle(s, cells, 1, state::NUMBER, r)

@@ -7,7 +7,8 @@ ghost use Rattle.frame.specs.code.Turning.{after};
 ghost use Rattle.references.specs.code.Targets.{local_of, local_in, in_room, in_local, in_field, target_of, target_top, read_of, written_at, write_of, borrowed_as, borrow_field_of};
 
 use state::frames::State;
-use state::{Operand, Reference, rooms, stops};
+use state::{Operand, Reference, rooms};
+use state::stops::Stop;
 
 // Where a reference leads: to a number in a cell, to the record with this serial number in a room, to nothing now, or to what no reference leads to.
 #[derive(Clone, Copy)]
@@ -119,9 +120,9 @@ pub fn read_ref(s: State, cells: &mut [u64]) -> State
             let n = state::number_at(cells, o as usize);
             frame::operations::settle(s, cells, 1, state::NUMBER, n)
         }
-        Target::Record(_, _) => s.stopped(stops::BROKEN),
-        Target::Stale => s.stopped(stops::STALE_REFERENCE),
-        Target::Impossible => s.stopped(stops::BROKEN),
+        Target::Record(_, _) => s.stopped(Stop::Broken),
+        Target::Stale => s.stopped(Stop::StaleReference),
+        Target::Impossible => s.stopped(Stop::Broken),
     }
 }
 
@@ -134,9 +135,9 @@ fn write_at(s: State, cells: &mut [u64], x: Target, n: u64) -> State
             state::put(cells, o as usize, state::NUMBER, n);
             s.drop_top(2).next()
         }
-        Target::Record(_, _) => s.stopped(stops::BROKEN),
-        Target::Stale => s.stopped(stops::STALE_REFERENCE),
-        Target::Impossible => s.stopped(stops::BROKEN),
+        Target::Record(_, _) => s.stopped(Stop::Broken),
+        Target::Stale => s.stopped(Stop::StaleReference),
+        Target::Impossible => s.stopped(Stop::Broken),
     }
 }
 
@@ -145,7 +146,7 @@ pub fn write_ref(s: State, cells: &mut [u64]) -> State
     ensures { after result (cells_of cells.new) ≡ write_of (cells_of cells.old) s }
 {
     if !s.has_number(cells, 1) {
-        return s.stopped(stops::BROKEN);
+        return s.stopped(Stop::Broken);
     }
     write_at(s, cells, target_top(s, cells), s.number(cells, 1))
 }
@@ -163,7 +164,7 @@ fn borrow_held(s: State, cells: &mut [u64], c: u32, m: u8, y: u8, j: u8) -> Stat
         let w = state::record_at(cells, o);
         return frame::operations::settle(s, cells, 1, state::TO_RECORD, w);
     }
-    s.stopped(stops::BROKEN)
+    s.stopped(Stop::Broken)
 }
 
 // BorrowFld.
@@ -172,9 +173,9 @@ pub fn borrow_field(s: State, cells: &mut [u64], b: u16) -> State
 {
     let x = target_top(s, cells);
     match x {
-        Target::Number(_) => s.stopped(stops::BROKEN),
+        Target::Number(_) => s.stopped(Stop::Broken),
         Target::Record(c, m) => borrow_held(s, cells, c, m, (b / 8 % 256) as u8, (b % 8) as u8),
-        Target::Stale => s.stopped(stops::STALE_REFERENCE),
-        Target::Impossible => s.stopped(stops::BROKEN),
+        Target::Stale => s.stopped(Stop::StaleReference),
+        Target::Impossible => s.stopped(Stop::Broken),
     }
 }

@@ -1,18 +1,18 @@
 -- ReadRef, WriteRef and BorrowFld: where a reference leads, and what is done there.
 use Rattle.std.specs.Prelude.{ℕ, ◌+◌, ◌/◌, ◌%◌, cond, List, eqb, ltb, get_or, set}
-use Rattle.semantics.specs.Limits.{stale_reference}
 use Rattle.state.specs.declared.Reference.{Reference}
 use Rattle.state.specs.declared.Reference.TheVariants.{Local, Field, Record as Whole}
 use Rattle.state.specs.declared.Operand.{Operand}
 use Rattle.state.specs.declared.Operand.TheVariants.{Empty, Number, Record, Refer}
 use Rattle.state.specs.declared.frames.State.{State}
+use Rattle.state.specs.declared.stops.Stop.TheVariants.{StaleReference, Broken}
 use Rattle.state.specs.code.Coding.{is_number, is_record, number_of, first_of, second_of, third_of}
 use Rattle.state.specs.code.Layout.{local_cell, suspended_cell, room_cell, no_cell}
 use Rattle.state.specs.code.Frames.{top_at, dropped, gone_on}
 use Rattle.state.specs.code.Rooms.{is_live, field_cell}
 use Rattle.references.specs.declared.targets.Target.{Target}
 use Rattle.references.specs.declared.targets.Target.TheVariants.{Number as ToNumber, Record as ToRecord, Stale, Impossible}
-use Rattle.frame.specs.code.Turning.{Turning, after, broken, ends, settled}
+use Rattle.frame.specs.code.Turning.{Turning, after, ends, settled}
 use Rattle.frame.specs.code.Operations.{with_number}
 
 -- the cell of local l of frame f at depth d
@@ -58,9 +58,9 @@ target_top cs s = target_by cs s (top_at cs s 0)
 -- ReadRef
 abbrev pub read_at : List Operand → State → Target → Turning
 read_at cs s (ToNumber o) = settled cs s 1 (Number (number_of (get_or cs o Empty)))
-read_at cs s (ToRecord c m) = ends cs s broken
-read_at cs s Stale = ends cs s stale_reference
-read_at cs s Impossible = ends cs s broken
+read_at cs s (ToRecord c m) = ends cs s Broken
+read_at cs s Stale = ends cs s StaleReference
+read_at cs s Impossible = ends cs s Broken
 
 abbrev pub read_of : List Operand → State → Turning
 read_of cs s = read_at cs s (target_top cs s)
@@ -68,9 +68,9 @@ read_of cs s = read_at cs s (target_top cs s)
 -- WriteRef
 abbrev pub written_at : List Operand → State → Target → ℕ → Turning
 written_at cs s (ToNumber o) n = after (gone_on (dropped s 2)) (set cs o (Number n))
-written_at cs s (ToRecord c m) n = ends cs s broken
-written_at cs s Stale n = ends cs s stale_reference
-written_at cs s Impossible n = ends cs s broken
+written_at cs s (ToRecord c m) n = ends cs s Broken
+written_at cs s Stale n = ends cs s StaleReference
+written_at cs s Impossible n = ends cs s Broken
 
 abbrev pub write_of : List Operand → State → Turning
 write_of cs s = with_number cs s (top_at cs s 1) λ (n : ℕ). written_at cs s (target_top cs s) n
@@ -79,13 +79,13 @@ write_of cs s = with_number cs s (top_at cs s 1) λ (n : ℕ). written_at cs s (
 abbrev pub borrowed_as : List Operand → State → ℕ → ℕ → ℕ → ℕ → Operand → Turning
 borrowed_as cs s c m y j x =
     cond (is_number x) (settled cs s 1 (Refer (Field c m y j)))
-    (cond (is_record x) (settled cs s 1 (Refer (Whole (first_of x) (second_of x) (third_of x)))) (ends cs s broken))
+    (cond (is_record x) (settled cs s 1 (Refer (Whole (first_of x) (second_of x) (third_of x)))) (ends cs s Broken))
 
 abbrev pub borrowed_in : List Operand → State → Target → ℕ → ℕ → Turning
-borrowed_in cs s (ToNumber o) y j = ends cs s broken
+borrowed_in cs s (ToNumber o) y j = ends cs s Broken
 borrowed_in cs s (ToRecord c m) y j = borrowed_as cs s c m y j (get_or cs (field_cell cs m j) Empty)
-borrowed_in cs s Stale y j = ends cs s stale_reference
-borrowed_in cs s Impossible y j = ends cs s broken
+borrowed_in cs s Stale y j = ends cs s StaleReference
+borrowed_in cs s Impossible y j = ends cs s Broken
 
 abbrev pub borrow_field_of : List Operand → State → ℕ → Turning
 borrow_field_of cs s b = borrowed_in cs s (target_top cs s) (b / 8 % 256) (b % 8)
