@@ -19,13 +19,12 @@ use Rattle.state.specs.declared.frames.State.{State}
 use Rattle.state.specs.code.Coding.{is_number, number_of, second_of}
 use Rattle.state.specs.code.Layout.{operand_cell, suspended_cell}
 use Rattle.state.specs.code.Frames.{with_height, pushed_in, top_at, dropped, gone_to, gone_on, stopped_with, suspended_in, entered_in, resumed_at}
+use Rattle.state.specs.code.Cells.{held_at}
 use Rattle.state.specs.code.Rooms.{field_cell}
 use Rattle.machine.specs.code.Machine.{held}
 use Rattle.machine.specs.code.Views.{locals_in, Same}
 use Rattle.machine.proofs.Views.{same_refl, same_trans, put_local, pushed-same, put_same, suspended_same, entered-same, received-same, load_is, store_is}
-use Rattle.references.specs.declared.targets.Target.{Target}
-use Rattle.references.specs.declared.targets.Target.TheVariants.{Number as ToNumber, Record as ToRecord, Stale, Impossible}
-use Rattle.references.specs.code.Targets.{target_top, read_at, read_of, borrowed_as, borrowed_in, borrow_field_of}
+use Rattle.references.specs.code.Targets.{Target, ToNumber, ToRecord, Stale, Impossible, target_top, read_at, read_of, borrowed_as, borrowed_in, borrow_field_of}
 use Rattle.records.specs.code.Published.{found, reference_at, global_at, global_of, exists_of}
 use Rattle.frame.specs.code.Turning.{Turning, after, done, broken, ends, settled}
 use Rattle.frame.specs.code.Operations.{with_number, closed, operated, op_of}
@@ -99,7 +98,7 @@ module _ (cs : List Operand) (s : State) (st : Stands cs s) where
 
       to : (t : Target) → Untouched cs s (borrowed_in cs s t (b / 8 % 256) (b % 8))
       to (ToNumber o) = ending cs s broken
-      to (ToRecord c m) = of c m (get_or cs (field_cell cs m (b % 8)) Empty)
+      to (ToRecord c m) = of c m (held_at cs (field_cell cs m (b % 8)))
       to Stale = ending cs s stale_reference
       to Impossible = ending cs s broken
 

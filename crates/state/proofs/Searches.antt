@@ -2,7 +2,7 @@
 use Prim.Native.Nat.{ℕ, zero, suc, ◌+◌, ◌-◌, ◌<◌, ◌≤◌}
 use mathlib.Core.Path.{◌≡◌, refl, sym}
 use mathlib.Core.Bool.{Bool, true, false, cond}
-use Rattle.std.specs.Prelude.{Option, Some, None}
+use Rattle.std.specs.Prelude.{Option, Some, None, is_some}
 use mathlib.Core.List.{List}
 use native.Mathlib.Numerals.{add-one, sub-one}
 use native.Mathlib.Omega.{arith}
@@ -44,6 +44,13 @@ module _ (n : ℕ) where
       go : (b : Bool) → ltb x n ≡ b → Some i ≡ cond b (Some x) None → (x ≡ i) × (x < n)
       go true t q = (cc, ltb-true x n t)
       go false t q = absurd (cc)
+
+  pub some_place : (x : ℕ) → is_some (place_below n x) ≡ ltb x n
+  some_place x = go (ltb x n)
+    where
+      go : (b : Bool) → is_some (cond b (Some x) None) ≡ b
+      go true = refl
+      go false = refl
 
   pub found_none : (x : ℕ) → None ≡ place_below n x → n ≤ x
   found_none x e = go (ltb x n) refl e

@@ -8,9 +8,6 @@ ghost use Rattle.state.specs.declared.Operand.TheVariants.{Empty};
 // The most rooms.
 pub const ROOMS: u8 = 128;
 
-// A cell that is not there.
-pub const NO_CELL: u16 = 65535;
-
 // The head of room m.
 pub fn room_cell(m: u8) -> u16
     ensures { result ≡ room_cell m }
@@ -26,15 +23,15 @@ pub fn is_live(cells: &[u64], s: u32, m: u8) -> bool
     crate::is_record(cells, o) && crate::first_at(cells, o) == s
 }
 
-// The cell of field j of room m, or none where the record has no such field.
-pub fn field_cell(cells: &[u64], m: u8, j: u8) -> u16
+// The cell of field j of room m, if the record has such a field.
+pub fn field_cell(cells: &[u64], m: u8, j: u8) -> Option<u16>
     ensures { result ≡ field_cell (cells_of cells.now) m j }
 {
     let o = room_cell(m);
     if j < crate::second_at(cells, o as usize) {
-        return o + 1 + (j as u16);
+        return Some(o + 1 + (j as u16));
     }
-    NO_CELL
+    None
 }
 
 // The first room from room `from` on that is not in use.

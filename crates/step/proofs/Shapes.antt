@@ -21,12 +21,11 @@ use Rattle.state.specs.code.Layout.{room_cell}
 use Rattle.state.specs.code.Coding.{is_number, number_of}
 use Rattle.state.specs.code.Stops.{number_of}
 use Rattle.state.specs.code.Frames.{stop_of, pushed, dropped, gone_to, gone_on, stopped_with, top_at, resumed, resumed_at, entered}
+use Rattle.state.specs.code.Cells.{held_at}
 use Rattle.state.specs.code.Rooms.{is_live, field_cell, first_free}
-use Rattle.references.specs.declared.targets.Target.{Target}
-use Rattle.references.specs.declared.targets.Target.TheVariants.{Number as ToNumber, Record as ToRecord, Stale, Impossible}
 use Rattle.frame.specs.code.Turning.{Turning, after, done, ends}
 use Rattle.frame.specs.code.Operations.{closed, operated}
-use Rattle.references.specs.code.Targets.{target_top, read_at, written_at, borrowed_as, borrowed_in}
+use Rattle.references.specs.code.Targets.{Target, ToNumber, ToRecord, Stale, Impossible, target_top, read_at, written_at, borrowed_as, borrowed_in}
 use Rattle.records.specs.code.Packing.{packed_state, packed_in, unpacked_top}
 use Rattle.records.specs.code.Published.{with_entries, found, published_as, moved_to, taken_out}
 use Rattle.frame.specs.code.Control.{within, called_in, returned_to, ret_of, branched_by}
@@ -85,7 +84,7 @@ module _ (cs : List Operand) (s : State) where
 
   borrows : {r : Bool} → (x : Target) (y j : ℕ) → Shape cs s r (borrowed_in cs s x y j)
   borrows (ToNumber o) y j = stays _ refl
-  borrows (ToRecord c m) y j = borrows_held c m y j (get_or cs (field_cell cs m j) Empty)
+  borrows (ToRecord c m) y j = borrows_held c m y j (held_at cs (field_cell cs m j))
   borrows Stale y j = stays _ refl
   borrows Impossible y j = stays _ refl
 

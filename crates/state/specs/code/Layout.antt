@@ -17,12 +17,9 @@ entry_cell i = 544 + 2 * i
 abbrev pub room_cell : ℕ → ℕ
 room_cell r = 672 + 9 * r
 
--- how many there are, and one that is not there
+-- how many there are
 abbrev pub all_cells : ℕ
 all_cells = 1824
-
-abbrev pub no_cell : ℕ
-no_cell = 65535
 
 -- a place below n, or none
 abbrev pub place_below : ℕ → ℕ → Option ℕ
