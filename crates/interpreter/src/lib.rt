@@ -37,6 +37,7 @@ fn marked(left: u64) -> u64
 }
 
 // Marked where an instruction can change entries or rooms: WriteRef, Pack, Unpack, MoveTo and MoveFrom can.
+#[tactic(auto, unfolding(crate::specs::code::Run::changes_memory))]
 fn marked_by(left: u64, opcode: u8) -> u64
     ensures { (result / 2 ≡ left / 2) × (eqb (result % 2) 0 ≡ same_by (eqb (left % 2) 0) opcode) }
 {

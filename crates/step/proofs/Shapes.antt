@@ -19,7 +19,7 @@ use Rattle.state.specs.declared.stops.Stop.{Stop}
 use Rattle.state.specs.declared.stops.Stop.TheVariants.{Done, TooManyRecords, TooManyEntries, Broken}
 use Rattle.state.specs.code.Layout.{room_cell}
 use Rattle.state.specs.code.Coding.{is_number, number_of}
-use Rattle.state.specs.code.Stops.{number_of}
+use Rattle.state.specs.code.Stops.{number_of as stop_number}
 use Rattle.state.specs.code.Frames.{stop_of, pushed, dropped, gone_to, gone_on, stopped_with, top_at, resumed, resumed_at, entered}
 use Rattle.state.specs.code.Cells.{held_at}
 use Rattle.state.specs.code.Rooms.{is_live, field_cell, first_free}
@@ -40,7 +40,7 @@ pub record Bounded (s s' : State) : Type 0 where
 -- by whether it is a Ret
 pub data Shape (cs : List Operand) (s : State) : Bool → Turning → Type 0 where
   finishes : s.depth ≡ 0 → Shape cs s true (ends cs s Done)
-  stays : {r : Bool} (k : Stop) → ltb done (number_of k) ≡ true → Shape cs s r (ends cs s k)
+  stays : {r : Bool} (k : Stop) → ltb done (stop_number k) ≡ true → Shape cs s r (ends cs s k)
   goes : {r : Bool} {s' : State} {cs' : List Operand} → Bounded s s' → Shape cs s r (after s' cs')
 
 module _ (cs : List Operand) (s : State) where
