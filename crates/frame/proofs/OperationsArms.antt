@@ -50,6 +50,6 @@ module _ (cs : List Operand) (s : State) (st : Stands cs s) where
     where
       shut : (c : Calculated) → Kept cs s (closed cs s c)
       shut (Value v) = settle-kept cs s st 2 (Number v) room
-      shut TooLarge = ends-kept cs s too_large
-      shut BelowZero = ends-kept cs s below_zero
-      shut Unknown = ends-kept cs s broken
+      shut TooLarge = ends-kept cs s _
+      shut BelowZero = ends-kept cs s _
+      shut Unknown = ends-kept cs s _
