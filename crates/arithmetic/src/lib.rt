@@ -13,15 +13,7 @@ pub enum Failure {
     Unknown,
 }
 
-// What the rules say that an operation gives. The code gives a Result, which stands for one of these (calculated_of).
-#[derive(Clone, Copy)]
-pub enum Calculated {
-    Value(u64),
-    TooLarge,
-    BelowZero,
-    Unknown,
-}
-
+// What operation op gives for two numbers.
 pub fn calculate(op: u16, x: u64, y: u64) -> Result<u64, Failure>
     ensures { calculated_of result ≡ calculation op x y }
 {

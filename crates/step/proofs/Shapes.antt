@@ -9,8 +9,7 @@ use borrow.Author.Tests.{eqb-true, lt-ltb, le-leb, lt-leb}
 use lib.Dec.{eqb, ltb, leb}
 use lib.ListN.{get_or}
 use Rattle.laws.proofs.Cases.{◌▸◌, each}
-use Rattle.arithmetic.specs.declared.Calculated.{Calculated}
-use Rattle.arithmetic.specs.declared.Calculated.TheVariants.{Value, TooLarge, BelowZero, Unknown}
+use Rattle.arithmetic.specs.Arithmetic.{Calculated, Value, TooLarge, BelowZero, Unknown}
 use Rattle.state.specs.code.Entries.{added_in}
 use Rattle.state.specs.declared.Operand.{Operand}
 use Rattle.state.specs.declared.Operand.TheVariants.{Empty, Number, Record, Refer}

@@ -2,8 +2,7 @@
 use Rattle.std.specs.Prelude.{ℕ, Result, Ok, Err}
 use Rattle.arithmetic.specs.declared.Failure.{Failure}
 use Rattle.arithmetic.specs.declared.Failure.TheVariants.{TooLarge as Above, BelowZero as Below, Unknown as NoSuch}
-use Rattle.arithmetic.specs.declared.Calculated.{Calculated}
-use Rattle.arithmetic.specs.declared.Calculated.TheVariants.{Value, TooLarge, BelowZero, Unknown}
+use Rattle.arithmetic.specs.Arithmetic.{Calculated, Value, TooLarge, BelowZero, Unknown}
 
 abbrev pub calculated_of : Result ℕ Failure → Calculated
 calculated_of (Ok v) = Value v

@@ -1,8 +1,6 @@
 -- Op.
 use Rattle.std.specs.Prelude.{ℕ, cond, List}
-use Rattle.arithmetic.specs.declared.Calculated.{Calculated}
-use Rattle.arithmetic.specs.declared.Calculated.TheVariants.{Value, TooLarge, BelowZero, Unknown}
-use Rattle.arithmetic.specs.Arithmetic.{calculation}
+use Rattle.arithmetic.specs.Arithmetic.{Calculated, Value, TooLarge, BelowZero, Unknown, calculation}
 use Rattle.state.specs.declared.Operand.{Operand}
 use Rattle.state.specs.declared.Operand.TheVariants.{Number}
 use Rattle.state.specs.declared.frames.State.{State}
