@@ -1,4 +1,4 @@
-use Prim.Native.Nat.{◌/◌, ◌<◌}
+use Prim.Native.Nat.{◌/◌}
 use mathlib.Core.Path.{◌≡◌, refl, sym, ◌∙◌}
 use native.Mathlib.Omega.{arith}
 use borrow.Author.Rules.{rules}
@@ -7,12 +7,12 @@ use lib.ListN.{length}
 use Rattle.laws.specs.Lists.{count, hits}
 use Rattle.laws.proofs.First.{fine, done, whole}
 use Rattle.laws.proofs.Lists.{count-few}
-use Rattle.table.specs.Verdicts.{Accepted, Refused, number_of_reason}
+use Rattle.table.specs.Verdicts.{Accepted, Refused}
 use Rattle.table.specs.Format.{type_kind, procedure_kind}
 use Rattle.table.specs.Rows.{is_kind}
 use Rattle.table.proofs.Reasons.{stops_at}
 use Rattle.declarations.specs.Program.{type_in, procedure_in}
-use Rattle.names.specs.Names.{names_with, fault_at}
+use Rattle.names.specs.Names.{names_with}
 use Rattle.names.proofs.Laws.{count_next, own-next, fault_here}
 use Rattle.names.proofs.names_with.Goals as goal
 
