@@ -1,8 +1,7 @@
 // The names pass: refusals 5 and 6.
 #![tactic(auto)]
 
-ghost use Rattle.std.specs.Prelude.{◌≡◌, cond, ◌+◌, ◌%◌, ◌/◌, ◌<◌, eqb, get_or};
-ghost use Rattle.table.specs.Format.{procedure_kind};
+ghost use Rattle.std.specs.Prelude.{◌≡◌, get_or};
 ghost use Rattle.table.specs.Verdicts.{verdict_of, fault_of};
 ghost use Rattle.table.specs.Flags.{has_type};
 ghost use Rattle.names.specs.Names.{names_with, bad_end, not_lower, no_such_type, no_such_name, names, nothing, no_such_field, missing, name_fault};
@@ -115,25 +114,6 @@ fn name_fault(table: &[u8], row: Row, s: Scope) -> Option<Reason>
     }
 }
 
-// One more where the kind is the one that is counted.
-fn counted(kind: u8, of: u8, n: usize) -> usize
-    requires { n < 18446744073709551615 }
-    ensures { result ≡ cond (eqb kind of) (n + 1) n }
-{
-    n + usize::from(kind == of)
-}
-
-// The procedure that the next row stands in.
-fn next_own(kind: u8, own: ProcedureEntry, starts: ProcedureEntry) -> ProcedureEntry
-    ensures { result ≡ cond (eqb kind procedure_kind) starts own }
-{
-    if kind == format::PROCEDURE {
-        starts
-    } else {
-        own
-    }
-}
-
 // The names pass over a table with a given index.
 pub fn names_with(table: &[u8], index: Index) -> Result<usize, Refusal>
     ensures { verdict_of result ≡ names_with index table.now }
@@ -157,9 +137,14 @@ pub fn names_with(table: &[u8], index: Index) -> Result<usize, Refusal>
         if let Some(reason) = name_fault(table, row, scope) {
             return Err(reason.at(i));
         }
-        y = counted(row.kind, format::TYPE, y);
-        p = counted(row.kind, format::PROCEDURE, p);
-        own = next_own(row.kind, own, starts);
+        match row.kind {
+            format::TYPE => y += 1,
+            format::PROCEDURE => {
+                p += 1;
+                own = starts;
+            }
+            _ => {}
+        }
     }
     Ok(n)
 }

@@ -17,14 +17,15 @@ use Rattle.laws.proofs.First.{first-same}
 use Rattle.laws.proofs.Lists.{is-tabulate, get_d_tabulate, length-tabulate, hits_skip}
 use Rattle.laws.proofs.Tests.{and_both, both_and, same_test, test_fails}
 use Rattle.table.specs.declared.Row.{Row}
-use Rattle.table.specs.Verdicts.{Accepted, Refused, value_of}
+use Rattle.table.specs.Verdicts.{Verdict, Accepted, Refused, value_of}
 use Rattle.table.specs.declared.index.Index.{Index}
 use Rattle.table.specs.declared.index.ProcedureEntry.{ProcedureEntry}
 use Rattle.table.specs.Format.{op_call}
 use Rattle.table.specs.Refusals.{forbidden_call}
 use Rattle.table.specs.Rows.{row_count, row_at, row_from}
 use Rattle.table.proofs.Laws.{row_inside}
-use Rattle.declarations.specs.Program.{procedure_in, code_pass}
+use Rattle.declarations.specs.Program.{procedure_in, code_of, code_verdict, code_pass}
+use Rattle.declarations.proofs.Laws.{verdict_of}
 use Rattle.declarations.proofs.Passes.{over_rows}
 use Rattle.policy.specs.declared.Standing.{Standing}
 use Rattle.policy.specs.declared.Standing.TheVariants.{Unruled, Forbidden, Allowed, Several}
@@ -266,3 +267,9 @@ module _ (grid : List Standing) (code : List ℕ) (ix : Index) (own : ProcedureE
   pub call-fault : (callee : ProcedureEntry) (may : Bool) → row.a ≡ op_call → callee ≡ procedure_in ix row.b → may ≡ permits_in grid own.owner callee.owner → forbidden_in grid code ix own i ≡ cond (not may) forbidden_call 0
   unfolding forbidden_in
   call-fault callee may h q m = rw (m, q, ← e, eq-eqb row.a op_call h)
+
+-- the verdict on the part that is a procedure's code
+pub judged_part : (grid : List Standing) (t code : List ℕ) (ix : Index) (p : ℕ) (own : ProcedureEntry) (v : Verdict) → code ≡ code_of t own → v ≡ code_verdict (forbidden_in grid code ix own) own.code (row_count code)
+    → verdict_of (λ (q : ℕ) (own : ProcedureEntry). forbidden_in grid (code_of t own) ix own) ix t p own ≡ v
+unfolding verdict_of
+judged_part grid t code ix p own v e q = sym (rw e at q)

@@ -2,7 +2,7 @@ use mathlib.Core.Path.{refl}
 use native.Mathlib.Omega.{arith}
 use Rattle.laws.specs.Lists.{tabulate}
 use Rattle.declarations.specs.Program.{local_count, code_length}
-use Rattle.names.specs.Names.{names, missing, nothing, local_number, field_number, type_number, procedure_number, target}
+use Rattle.names.specs.Names.{names, missing, nothing, local_number, type_number, target}
 use Rattle.names.proofs.Laws.{leb_minus, named-alike}
 use Rattle.names.proofs.bad_operand.Goals as goal
 

@@ -1,13 +1,12 @@
-use Prim.Native.Nat.{ℕ, ◌≤◌}
+use Prim.Native.Nat.{◌≤◌}
 use mathlib.Core.Path.{◌≡◌, sym, ◌∙◌}
 use native.Mathlib.Omega.{arith}
 use lib.ListN.{length, length-take}
 use Rattle.std.proofs.lemmas.Result.{err_from_is_err_and}
-use Rattle.table.specs.Verdicts.{Accepted, Refused, number_of_reason}
-use Rattle.table.specs.declared.index.ProcedureEntry.{ProcedureEntry}
 use Rattle.declarations.specs.Program.{code_of, procedure_in}
-use Rattle.declarations.proofs.Laws.{verdict_of, pass_start, pass_end, pass_refused, pass_on, passes_at, passes-entry, procedures_of}
-use Rattle.policy.specs.code.Grid.{forbidden_in, calls_in}
+use Rattle.declarations.proofs.Laws.{pass_start, pass_end, pass_refused, pass_on, passes_at, passes-entry, procedures_of}
+use Rattle.policy.specs.code.Grid.{calls_in}
+use Rattle.policy.proofs.Laws.{judged_part}
 use Rattle.policy.proofs.calls_verdict.Goals as goal
 
 pub loop-p-init : goal.loop-p-init
@@ -15,23 +14,19 @@ unfolding calls_in
 loop-p-init c = pass_start _ _ _
 
 pub loop-p-preserved : goal.loop-p-preserved
-unfolding verdict_of code_of procedure_in
+unfolding code_of procedure_in
 loop-p-preserved c =
     let room : length c.args.index.procedure_entries ≡ 128 = omega arith in
     let code-is : c.part-code.result.now ≡ code_of c.args.table.now (procedure_in c.args.index c.loop-p.p) = c.part-code.ensures.result_value ∙ rw (c.from.ensures, c.from-in-loop-p.ensures) in
-    let judged : verdict_of (λ (q : ℕ) (own : ProcedureEntry). forbidden_in c.args.grid.now (code_of c.args.table.now own) c.args.index own) c.args.index c.args.table.now c.loop-p.p (procedure_in c.args.index c.loop-p.p) ≡ Accepted c.in_ok-judge_code.field-0
-    = sym (rw code-is at c.in_ok-judge_code.ensures) in
-    c.loop-p.invariant ∙ pass_on _ _ _ _ _ _ (passes_at c.args.index room _ (omega arith) (omega arith)) (passes-entry c.args.index room _ (omega arith)) judged
+    c.loop-p.invariant ∙ pass_on _ _ _ _ _ _ (passes_at c.args.index room _ (omega arith) (omega arith)) (passes-entry c.args.index room _ (omega arith)) (judged_part _ _ _ _ _ _ _ code-is c.in_ok-judge_code.ensures)
 
 pub returns-in_err-judge_code : goal.returns-in_err-judge_code
-unfolding verdict_of code_of procedure_in
+unfolding code_of procedure_in
 returns-in_err-judge_code c =
     let room : length c.args.index.procedure_entries ≡ 128 = omega arith in
     let code-is : c.part-code.result.now ≡ code_of c.args.table.now (procedure_in c.args.index c.loop-p.p) = c.part-code.ensures.result_value ∙ rw (c.from.ensures, c.from-in-loop-p.ensures) in
-    let judged : verdict_of (λ (q : ℕ) (own : ProcedureEntry). forbidden_in c.args.grid.now (code_of c.args.table.now own) c.args.index own) c.args.index c.args.table.now c.loop-p.p (procedure_in c.args.index c.loop-p.p) ≡ Refused (number_of_reason c.in_err-judge_code.field-0.0.reason) c.in_err-judge_code.field-0.0.row
-    = sym (rw code-is at c.in_err-judge_code.ensures) in
     let p = err_from_is_err_and c.from_residual.result c.from_residual.ensures.1 in
-    rw (p.1, p.2) (sym (c.loop-p.invariant ∙ pass_refused _ _ _ _ _ _ _ (passes_at c.args.index room _ (omega arith) (omega arith)) (passes-entry c.args.index room _ (omega arith)) judged))
+    rw (p.1, p.2) (sym (c.loop-p.invariant ∙ pass_refused _ _ _ _ _ _ _ (passes_at c.args.index room _ (omega arith) (omega arith)) (passes-entry c.args.index room _ (omega arith)) (judged_part _ _ _ _ _ _ _ code-is c.in_err-judge_code.ensures)))
 
 pub returns : goal.returns
 returns c =
