@@ -45,7 +45,7 @@ impl LocalSet {
     }
 }
 
-// The status of a local on a walk.
+// The status of a local on a walk: a number, since it is part of a node's number, 2 i + status.
 const FULL: usize = 0;
 
 const EMPTY: usize = 1;
