@@ -20,12 +20,13 @@ use Rattle.reach.proofs.Laws.{length-mark}
 use Rattle.reach.proofs.Settle.{settle-iter}
 use Rattle.reach.proofs.Search.{search-one, taken, finish, tail-le, queued-below}
 use Rattle.table.specs.declared.Row.{Row}
-use Rattle.table.specs.Verdicts.{Verdict, Accepted, Refused, number_of_reason}
+use Rattle.std.specs.Bool.{then_some}
+use Rattle.table.specs.Verdicts.{Verdict, Accepted, Refused, number_of_reason, fault_of}
 use Rattle.table.specs.declared.refusals.Reason.{Reason}
 use Rattle.table.specs.declared.index.Index.{Index}
 use Rattle.table.specs.Index.{no_procedure}
 use Rattle.declarations.specs.code.Limits.{over_limits}
-use Rattle.declarations.proofs.Laws.{limits-held, procedures_of, pass_from, pass_end, pass_on, pass_refused, on_part}
+use Rattle.declarations.proofs.Laws.{limits-held, procedures_of, pass_start, pass_from, pass_end, pass_on, pass_refused, on_part}
 use Rattle.table.specs.declared.index.ProcedureEntry.{ProcedureEntry}
 use Rattle.table.specs.Format.{op_mv_loc, op_cp_loc, op_st_loc, op_borrow_loc, op_ret}
 use Rattle.table.specs.Rows.{row_count, row_at}
@@ -273,3 +274,13 @@ module _ (fault : ℕ → ℕ) (start n : ℕ) where
   pub verdict_end : {i : ℕ} → n ≤ i → i ≤ n → verdict_from i ≡ Accepted n
   unfolding verdict_from
   verdict_end {i} h k = let e : i ≡ n = omega arith in rw e (done Accepted (λ (number j : ℕ). Refused number (start + j)) fault n)
+
+pub ruleset passing = (pass_start, procedures_done)
+
+pub ruleset judging = (verdict_start, verdict_next, verdict_refused, verdict_end)
+
+pub fault_if : (b : Bool) (r : Reason) → fault_of (then_some b r) ≡ cond b (number_of_reason r) 0
+fault_if true r = refl
+fault_if false r = refl
+
+pub ruleset faults = (full-only, fault_if)

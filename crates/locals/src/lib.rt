@@ -46,7 +46,7 @@ impl LocalSet {
     }
 }
 
-// The status of a local on a walk.
+// The status of a local on a walk: a number, since it is part of a node's number, 2 i + status.
 const FULL: usize = 0;
 
 const EMPTY: usize = 1;
@@ -116,6 +116,7 @@ fn spread_local(visited: &mut [bool], queue: &mut Queue, code: &[u8], params: us
 }
 
 // The nodes of every local, one after the other.
+#[tactic(auto, using(crate::proofs::Laws::nodes_fit))]
 fn spread_locals(nodes: &mut Nodes, queue: &mut Queue, code: &[u8], params: usize, count: usize)
     requires { (0 < row_count code.now) × (row_count code.now ≤ 256) × (count ≤ 16) }
     ensures { (l : ℕ) → l < count → take (2 * row_count code.now) (drop (2 * row_count code.now * l) nodes.new) ≡ nodes_of code.now params l }
@@ -188,6 +189,7 @@ impl<'a> Arrival<'a> {
     }
 
     // The fault that instruction i earns, which is this row.
+    #[tactic(auto, using(crate::proofs::Laws::faults), unfolding(crate::specs::code::Faults::fault_from))]
     fn fault(&self, row: Row) -> Option<Reason>
         ensures { fault_of result ≡ fault_from self.now.nodes.now row self.now.n self.now.count self.now.records self.now.i }
     {
@@ -244,6 +246,7 @@ fn parameter_count(table: &[u8], p: ProcedureEntry) -> usize
 }
 
 // The instructions of a procedure, whose code is the part `code`.
+#[tactic(auto, using(crate::proofs::Laws::judging))]
 fn judge_code(
     code: &[u8],
     nodes: &Nodes,
@@ -293,7 +296,7 @@ fn judge_procedure(
 }
 
 // The locals pass over a table with a given index, of the procedures within the limits: those of any table that the rows pass accepts.
-#[tactic(auto, using(declarations::proofs::Laws::pass_start), unfolding(crate::specs::code::Within::locals_within, declarations::specs::Program::code_of))]
+#[tactic(auto, using(crate::proofs::Laws::passing), unfolding(crate::specs::code::Within::locals_within, declarations::specs::Program::code_of))]
 pub fn locals_with(table: &[u8], index: Index) -> Result<usize, Refusal>
     ensures { verdict_of result ≡ locals_within index table.now }
 {

@@ -22,7 +22,7 @@ use Rattle.table.specs.declared.refusals.Reason.{Reason}
 use Rattle.table.specs.declared.Row.{Row}
 use Rattle.table.specs.Rows.{row_at, row_count}
 use Rattle.declarations.specs.Program.{target_marks, target_below, is_target, jumps_to, Marked}
-use Rattle.declarations.proofs.Laws.{target_more, procedures_of, pass_from, pass_end, pass_on, pass_refused, on_part}
+use Rattle.declarations.proofs.Laws.{target_more, procedures_of, pass_start, pass_from, pass_end, pass_on, pass_refused, on_part}
 use Rattle.table.specs.declared.index.Index.{Index}
 use Rattle.table.specs.declared.index.TypeEntry.{TypeEntry}
 use Rattle.table.specs.declared.index.ProcedureEntry.{ProcedureEntry}
@@ -162,3 +162,7 @@ module _ (fault : ℕ → ℕ) (start n : ℕ) where
   pub verdict_end : {i : ℕ} → n ≤ i → i ≤ n → verdict_from i ≡ Accepted n
   unfolding verdict_from
   verdict_end {i} h k = let e : i ≡ n = omega arith in rw e (done Accepted (λ (number j : ℕ). Refused number (start + j)) fault n)
+
+pub ruleset passing = (pass_start, procedures_done)
+
+pub ruleset judging = (here, verdict_start, verdict_next, verdict_refused, verdict_end)

@@ -129,6 +129,7 @@ fn named_type(index: &Index, row: Row) -> TypeEntry
 }
 
 // The instructions of procedure `own`.
+#[tactic(auto, using(crate::proofs::Laws::judging), unfolding(crate::specs::Operands::kinds_before, effects::specs::Kinds::top_first))]
 fn judge_code(
     table: &[u8],
     code: Code,
@@ -175,7 +176,7 @@ fn judge_procedure(
 }
 
 // The operands pass over a table with a given index.
-#[tactic(auto, using(declarations::proofs::Laws::pass_start), unfolding(crate::specs::Operands::operands_with, declarations::specs::Program::code_of))]
+#[tactic(auto, using(crate::proofs::Laws::passing), unfolding(crate::specs::Operands::operands_with, declarations::specs::Program::code_of))]
 pub fn operands_with(table: &[u8], index: Index) -> Result<usize, Refusal>
     ensures { verdict_of result ≡ operands_with index table.now }
 {

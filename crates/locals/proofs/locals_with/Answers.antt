@@ -1,4 +1,4 @@
-use Rattle.locals.proofs.Laws.{procedures_done, procedure_accepted, procedure_refused}
+use Rattle.locals.proofs.Laws.{procedure_accepted, procedure_refused}
 use Rattle.declarations.specs.Program.{code_of}
 use Rattle.std.proofs.lemmas.Result.{err_from_is_err_and}
 use mathlib.Core.Path.{sym, ◌∙◌}
@@ -14,6 +14,3 @@ returns-in_err-judge_procedure c =
 pub loop-own-preserved : goal.loop-own-preserved
 unfolding code_of
 loop-own-preserved c = c.loop-own.invariant ∙ procedure_accepted _ _ _ c.min-count.ensures (omega arith) _ c.loop-own-test.true c.part-code.ensures.result_value c.in_ok-judge_procedure.ensures
-
-pub returns : goal.returns
-returns c = sym (c.loop-own.invariant ∙ procedures_done _ _ _ c.min-count.ensures (omega arith) _ c.loop-own-test.false)

@@ -8,15 +8,6 @@ use mathlib.Core.Path.{◌∙◌}
 use native.Mathlib.Omega.{arith}
 use Rattle.locals.proofs.spread_locals.Goals as goal
 
-pub overflow_mul-from-in-loop-l : goal.overflow_mul-from-in-loop-l
-overflow_mul-from-in-loop-l c = omega (arith, nodes_fit (row_count c.args.code.now) c.loop-l.l (omega arith) (omega arith))
-
-pub overflow_add-to : goal.overflow_add-to
-overflow_add-to c = omega (arith, nodes_fit (row_count c.args.code.now) c.loop-l.l (omega arith) (omega arith))
-
-pub slice_bounds-spread_local-end : goal.slice_bounds-spread_local-end
-slice_bounds-spread_local-end c = omega (arith, nodes_fit (row_count c.args.code.now) (c.loop-l.l + 1) (omega arith) (omega arith))
-
 pub spread_local-requires : goal.spread_local-requires
 spread_local-requires c =
     let fits : 2 * row_count c.args.code.now * c.loop-l.l + 2 * row_count c.args.code.now ≤ length c.loop-l.nodes = omega (arith, nodes_fit (row_count c.args.code.now) (c.loop-l.l + 1) (omega arith) (omega arith)) in
