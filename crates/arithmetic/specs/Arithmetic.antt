@@ -1,7 +1,5 @@
 -- Op (document 01; document 02, paper 4): 0 add, 1 subtract the second from the first, 2 equal, 3 less.
 use Rattle.std.specs.Prelude.{ℕ, ◌+◌, ◌-◌, ◌^◌, Bool, true, false, cond, List, [], ◌∷◌, eqb, ltb, leb, get_or}
-use Rattle.arithmetic.specs.declared.Calculated.{Calculated}
-use Rattle.arithmetic.specs.declared.Calculated.TheVariants.{Value, TooLarge, BelowZero, Unknown}
 
 -- numbers have 64 bits: they lie below this one
 abbrev pub past_numbers : ℕ
@@ -24,6 +22,11 @@ is_less = 3
 abbrev pub truth : Bool → ℕ
 truth true = 1
 truth false = 0
+
+-- what an operation gives: a number; none, as the sum would have more than 64 bits, or as the difference would lie below 0; or there is no such operation
+pub data Calculated : Type 0 where
+  Value : ℕ → Calculated
+  TooLarge BelowZero Unknown : Calculated
 
 -- what the operations give, in their order: a sum may be too large, a difference below zero
 abbrev pub calculations : ℕ → ℕ → List Calculated

@@ -3,11 +3,13 @@
 
 ghost use Rattle.std.specs.Prelude.{◌≡◌, not, ◌&&◌, ◌||◌, ◌+◌, ◌-◌, eqb, leb, length};
 ghost use Rattle.table.specs.Rows.{row_count};
-ghost use Rattle.declarations.specs.Program.{kinds_of, procedure_in, parameter_kinds, result_kinds};
+ghost use Rattle.table.specs.Verdicts.{fault_of, verdict_of};
+ghost use Rattle.declarations.specs.Program.{kinds_of, parameter_kinds, result_kinds};
 ghost use Rattle.semantics.specs.Calls.{arguments, is_public, bad_kind, unused_byte, argument_first, all_numbers, bad_budget, list_fault, list_of};
 
 use table::index::{Index, ProcedureEntry};
-use table::{Row, Verdict, format, refusals};
+use table::refusals::{Reason, Refusal};
+use table::{Row, format};
 
 // Kinds of list rows: a call (B the procedure, C the budget), and an argument (D) of the call above. They are bytes of the list, of which any may stand
 // there.
@@ -35,18 +37,6 @@ pub fn argument_count(list: &[u8], i: usize) -> usize
         }
     }
     n - first
-}
-
-// The entry of procedure p, or the one for a number without a procedure.
-#[tactic(auto, unfolding(declarations::specs::Program::procedure_in))]
-pub fn procedure_in(index: Index, p: usize) -> ProcedureEntry
-    ensures { result ≡ procedure_in index p }
-{
-    index
-        .procedure_entries
-        .get(p)
-        .copied()
-        .unwrap_or(ProcedureEntry::NONE)
 }
 
 // 15: a kind that is none of a list; an unused byte that is not 0 (A of every row, D of a call, B and C of an argument); an argument above which there is
@@ -114,40 +104,39 @@ fn bad_call(table: &[u8], procedures: usize, p: ProcedureEntry, row: Row, count:
 }
 
 // The lowest number that row i of the list earns, or 0.
-fn list_fault(table: &[u8], list: &[u8], index: Index, i: usize) -> u8
-    ensures { result ≡ list_fault table.now index list.now i }
+fn list_fault(table: &[u8], list: &[u8], index: Index, i: usize) -> Option<Reason>
+    ensures { fault_of result ≡ list_fault table.now index list.now i }
 {
     let row = table::row_at(list, i);
     if bad_form(row, i) {
-        return refusals::BAD_LIST;
+        return Some(Reason::BadList);
     }
     if row.kind == CALL
         && bad_call(
             table,
             index.procedures,
-            procedure_in(index, row.b as usize),
+            declarations::procedure_in(&index, row.b as usize),
             row,
             argument_count(list, i),
         )
     {
-        return refusals::BAD_CALL;
+        return Some(Reason::BadCall);
     }
-    0
+    None
 }
 
 // The verdict on a list, with the index of its table: its length first, then its lowest faulty row.
-pub fn list_verdict(table: &[u8], list: &[u8], index: Index) -> Verdict
-    ensures { result ≡ list_of table.now index list.now }
+pub fn list_verdict(table: &[u8], list: &[u8], index: Index) -> Result<usize, Refusal>
+    ensures { verdict_of result ≡ list_of table.now index list.now }
 {
     if MAX_LIST_BYTES < list.len() || list.len() % format::ROW_BYTES != 0 {
-        return Verdict::Refused(refusals::BAD_LIST, 0);
+        return Err(Reason::BadList.at(0));
     }
     let n = list.len() / format::ROW_BYTES;
     for i in 0..n {
-        let fault = list_fault(table, list, index, i);
-        if fault != 0 {
-            return Verdict::Refused(fault, i);
+        if let Some(reason) = list_fault(table, list, index, i) {
+            return Err(reason.at(i));
         }
     }
-    Verdict::Accepted(n)
+    Ok(n)
 }

@@ -2,10 +2,10 @@
 #![tactic(auto)]
 
 ghost use Rattle.std.specs.Prelude.{◌≡◌};
-ghost use Rattle.declarations.specs.Program.{record_of, record_ref, is_record, is_reference, is_writable, row_kind, local_count, parameters_end};
+ghost use Rattle.declarations.specs.Program.{record_of, record_ref, is_record, is_reference, is_writable, row_kind, type_in, procedure_in, local_count, parameters_end};
 ghost use Rattle.declarations.specs.code.Limits.{over_limits};
 
-use table::index::ProcedureEntry;
+use table::index::{Index, ProcedureEntry, TypeEntry};
 use table::{Row, format};
 
 // Kinds: eight times the type, and the sort. Those without a type: a number and a reference to one.
@@ -55,6 +55,29 @@ pub fn row_kind(row: Row) -> u32
     ensures { result ≡ row_kind row }
 {
     8 * (row.b as u32) + (row.a as u32)
+}
+
+// The entry of type y, and of procedure p; the empty one for a number without a type, and without a procedure.
+#[tactic(auto, unfolding(crate::specs::Program::type_in))]
+pub fn type_in(index: &Index, y: usize) -> TypeEntry
+    ensures { result ≡ type_in index.now y }
+{
+    index
+        .type_entries
+        .get(y)
+        .copied()
+        .unwrap_or(TypeEntry::NONE)
+}
+
+#[tactic(auto, unfolding(crate::specs::Program::procedure_in))]
+pub fn procedure_in(index: &Index, p: usize) -> ProcedureEntry
+    ensures { result ≡ procedure_in index.now p }
+{
+    index
+        .procedure_entries
+        .get(p)
+        .copied()
+        .unwrap_or(ProcedureEntry::NONE)
 }
 
 // The row after a procedure's last parameter.

@@ -39,6 +39,8 @@ two-less x y h = go (ℕ_discrete (x - 2) y)
 pub two_more : (x y : ℕ) → x < 2 → eqb x (y + 2) ≡ false
 two_more x y h = ne_eqb x (y + 2) (λ e. omega arith)
 
+pub ruleset two_off = (two-less, two_more)
+
 -- a kind that can be written through leaves room for the read-only one
 pub not_last : (k : ℕ) → is_writable k ≡ true → k % 8 ≤ 3
 unfolding is_writable
@@ -124,6 +126,8 @@ kinds-whole t from to i a b d = go (dec_lt from to)
     go : Dec (from < to) → kinds_of t i to ≡ kinds_of t from to
     go (yes h) = let e : i ≡ from = omega arith in rw e
     go (no h) = kinds-none t i to (omega arith) ∙ sym (kinds-none t from to (omega arith))
+
+pub ruleset rows = (kinds-none, kinds-first, kinds-before, kinds-whole)
 
 -- what the row's instruction does, by its opcode
 module _ (t : List ℕ) (own : ProcedureEntry) (named : TypeEntry) (callee : ProcedureEntry) (row : Row) (s : Kinds) where

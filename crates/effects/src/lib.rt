@@ -22,6 +22,7 @@ pub struct Stack {
 }
 
 // Whether an operand of kind `top` can be read as a reference of kind k: it is one, or the read-only one to the same.
+#[tactic(auto, using(crate::proofs::Laws::two_off), unfolding(crate::specs::Effects::reads))]
 fn reads(k: u32, top: u32) -> bool
     ensures { result ≡ Effects.reads k top }
 {
@@ -93,6 +94,7 @@ impl Stack {
     }
 
     // Takes operands of the kinds that the rows from `from` to before `to` declare, the last first.
+    #[tactic(auto, using(crate::proofs::Laws::rows), unfolding(crate::specs::Kinds::taken_all))]
     fn take_rows(self, kinds: &[u32; 16], table: &[u8], from: usize, to: usize) -> Self
         ensures { view kinds.now result ≡ taken_all (kinds_of table.now from to) (view kinds.now self) }
     {
@@ -104,6 +106,7 @@ impl Stack {
     }
 
     // Pushes operands of the kinds that the rows from `from` to before `to` declare, the first first.
+    #[tactic(auto, using(crate::proofs::Laws::rows), unfolding(crate::specs::Kinds::pushed_all))]
     fn push_rows(self, kinds: &mut [u32; 16], table: &[u8], from: usize, to: usize) -> Self
         ensures { view kinds.new result ≡ pushed_all (kinds_of table.now from to) (view kinds.old self) }
     {
@@ -139,7 +142,7 @@ impl Stack {
 }
 
 // What each instruction does.
-#[tactic(auto, unfolding(crate::specs::Effects::applied, crate::specs::Kinds::taken_all, crate::specs::Kinds::pushed_all, declarations::specs::Program::field_kinds, declarations::specs::Program::parameter_kinds, declarations::specs::Program::result_kinds))]
+#[tactic(auto, unfolding(crate::specs::Effects::applied, crate::specs::Kinds::taken_all, crate::specs::Kinds::pushed_all, declarations::specs::Program::is_reference, declarations::specs::Program::field_kinds, declarations::specs::Program::parameter_kinds, declarations::specs::Program::result_kinds))]
 impl Stack {
     // Pop: a number or a reference.
     fn pop(self, kinds: &[u32; 16]) -> Self
@@ -366,6 +369,7 @@ fn local_kind(table: &[u8], p: ProcedureEntry, b: u16) -> u32
 }
 
 // A reference to field b % 8 of a type, borrowed through one of kind `top`: read-only where that is.
+#[tactic(auto, unfolding(declarations::specs::Program::row_kind, declarations::specs::Program::field_row, crate::specs::Effects::alike))]
 fn field_reference(table: &[u8], y: TypeEntry, b: u16, top: u32) -> u32
     ensures { result ≡ alike top (reference_to (row_kind (row_at table.now (field_row y (b % 8))))) }
 {

@@ -4,7 +4,6 @@
 ghost use Rattle.std.specs.Prelude.{◌≡◌, false, cond, ℕ, ◌+◌, ◌≤◌, ◌<◌, eqb, length, get_or};
 ghost use Rattle.table.specs.Format.{procedure_kind};
 ghost use Rattle.table.specs.Rows.{row_count};
-ghost use Rattle.declarations.specs.Program.{type_in, procedure_in};
 ghost use Rattle.helpers.specs.Tables.{is_private, is_helper, borrows_guarded};
 ghost use Rattle.entries.specs.code.Entries.{kept, sends_to, called_by, head_entry, code_entry, entry_by, Filled, last_after, before_after, Linked, makes_at, makes_some};
 
@@ -39,29 +38,6 @@ fn keep(row: u16) -> u16
     ensures { result ≡ kept row }
 {
     row.checked_add(1).unwrap_or(0)
-}
-
-// The entry of procedure p, and of type y; the empty one for a number without a procedure, and without a type.
-#[tactic(auto, unfolding(declarations::specs::Program::procedure_in))]
-pub fn procedure_in(index: &Index, p: usize) -> ProcedureEntry
-    ensures { result ≡ procedure_in index.now p }
-{
-    index
-        .procedure_entries
-        .get(p)
-        .copied()
-        .unwrap_or(ProcedureEntry::NONE)
-}
-
-#[tactic(auto, unfolding(declarations::specs::Program::type_in))]
-fn type_in(index: &Index, y: usize) -> TypeEntry
-    ensures { result ≡ type_in index.now y }
-{
-    index
-        .type_entries
-        .get(y)
-        .copied()
-        .unwrap_or(TypeEntry::NONE)
 }
 
 // Whether a procedure is private.
@@ -172,10 +148,10 @@ pub fn fill(table: &[u8], index: Index, entries: &mut [RowEntry])
     let mut above: usize = 0;
     for r in 0..n {
         let row = table::row_at(table, r);
-        let head = procedure_in(&index, above);
-        let own = procedure_in(&index, above.saturating_sub(1));
-        let named = type_in(&index, operands::named_number(row.a, row.b));
-        let callee = procedure_in(&index, row.b as usize);
+        let head = declarations::procedure_in(&index, above);
+        let own = declarations::procedure_in(&index, above.saturating_sub(1));
+        let named = declarations::type_in(&index, operands::named_number(row.a, row.b));
+        let callee = declarations::procedure_in(&index, row.b as usize);
         entries[r] = entry_of(table, row, above, head, own, named, callee);
         if row.kind == format::PROCEDURE {
             above += 1;
@@ -221,7 +197,7 @@ pub fn makes_mark(table: &[u8], index: Index, r: usize) -> bool
     ensures { result ≡ makes_at table.now index r }
 {
     let row = table::row_at(table, r);
-    let named = type_in(&index, operands::named_number(row.a, row.b));
+    let named = declarations::type_in(&index, operands::named_number(row.a, row.b));
     row.kind == format::INSTRUCTION && borrows_guarded(table, row, named)
 }
 

@@ -71,10 +71,10 @@ module _ (cs : List Operand) (s : State) (st : Stands cs s) where
       either false = goes_kept cs s st cs (same_refl cs 512 1824) _ _ refl
 
       go : (x : Operand) → Kept cs s (after (branched_by s b x) cs)
-      go Empty = ends-kept cs s broken
+      go Empty = ends-kept cs s _
       go (Number n) = either (eqb n 0)
-      go (Record a c y) = ends-kept cs s broken
-      go (Refer r) = ends-kept cs s broken
+      go (Record a c y) = ends-kept cs s _
+      go (Refer r) = ends-kept cs s _
 
   -- Call
   module _ (k count : ℕ) (enough : k ≤ s.height) (few : k ≤ count) (most : count ≤ 16) where
@@ -136,7 +136,7 @@ module _ (cs : List Operand) (s : State) (st : Stands cs s) where
       where
         go : Dec (s.depth < 15) → Kept cs s (called_in cs s b k count)
         go (yes deep) = rw (lt-leb 15 s.depth deep) (kept cs ds s _ (length-entered es caller k count ∙ length_suspended cs caller) (λ r l. call_high deep (room_cell r) (omega arith) (omega arith)) refl refl (omega arith) (next_low s.frames))
-        go (no deep) = rw (le-leb 15 s.depth (omega arith)) (ends-kept cs s too_many_frames)
+        go (no deep) = rw (le-leb 15 s.depth (omega arith)) (ends-kept cs s _)
 
   -- Ret to the frame at depth d
   module _ (k d : ℕ) (e : s.depth ≡ suc d) (fits : second_of (get_or cs (suspended_cell d) Empty) + k ≤ 16) where
@@ -187,7 +187,7 @@ module _ (cs : List Operand) (s : State) (st : Stands cs s) where
   ret-kept k enough fits = go s.depth refl
     where
       go : (n : ℕ) → s.depth ≡ n → Kept cs s (ret_of cs s k)
-      go zero e = rw (eq-eqb s.depth 0 e) (ends-kept cs s done)
+      go zero e = rw (eq-eqb s.depth 0 e) (ends-kept cs s _)
       go (suc n) e =
           let m : k % 256 ≡ k = omega (arith, st.low) in
           let p : s.depth - 1 ≡ n = omega arith in

@@ -10,7 +10,7 @@ use Rattle.state.specs.declared.Operand.TheVariants.{Empty}
 use Rattle.state.specs.declared.frames.State.{State}
 use Rattle.state.specs.code.Coding.{is_record, second_of, third_of}
 use Rattle.state.specs.code.Layout.{suspended_cell, room_cell, all_cells}
-use Rattle.state.specs.code.Frames.{dropped}
+use Rattle.state.specs.code.Frames.{stop_of, dropped}
 use Rattle.machine.specs.code.Machine.{MOutcome, mnext, mfinished, mstopped, mbroken, topmost, doings}
 use Rattle.machine.specs.code.Views.{operands_in, locals_in, below_in, rooms_in, entries_in, view_of}
 use Rattle.frame.specs.code.Turning.{Turning, after, done, broken}
@@ -23,7 +23,7 @@ outcome_by stop k cs s =
     (cond (eqb stop broken) mbroken (mstopped stop)))
 
 abbrev pub outcome_of : ℕ → Turning → MOutcome
-outcome_of k (after s cs) = outcome_by s.stop k cs s
+outcome_of k (after s cs) = outcome_by (stop_of s) k cs s
 
 -- what the machine on lists does at this state by opcode a; see `doings`
 abbrev pub doing : (b d kind takes others : ℕ) → List Operand → State → ℕ → MOutcome
@@ -39,7 +39,7 @@ pub record Tidy (cs : List Operand) (s : State) : Type 0 where
 -- What holds before an instruction: the cells are all there, the call runs, and what lies in the cells lies within its bounds.
 pub record Stands (cs : List Operand) (s : State) : Type 0 where
   pub whole : length cs ≡ all_cells
-  pub running : s.stop ≡ 0
+  pub running : stop_of s ≡ 0
   pub named : s.procedure < 65536
   pub inside : s.at < 65535
   pub low : s.height ≤ 16

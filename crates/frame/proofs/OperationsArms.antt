@@ -3,9 +3,7 @@ use Prim.Native.Nat.{ℕ, ◌-◌, ◌<◌}
 use mathlib.Core.Path.{◌≡◌, refl}
 use mathlib.Core.List.{List}
 use native.Mathlib.Omega.{arith}
-use Rattle.arithmetic.specs.declared.Calculated.{Calculated}
-use Rattle.arithmetic.specs.declared.Calculated.TheVariants.{Value, TooLarge, BelowZero, Unknown}
-use Rattle.arithmetic.specs.Arithmetic.{calculation}
+use Rattle.arithmetic.specs.Arithmetic.{Calculated, Value, TooLarge, BelowZero, Unknown, calculation}
 use Rattle.semantics.specs.Limits.{too_large, below_zero}
 use Rattle.state.specs.declared.Operand.{Operand}
 use Rattle.state.specs.declared.Operand.TheVariants.{Empty, Number, Record, Refer}
@@ -50,6 +48,6 @@ module _ (cs : List Operand) (s : State) (st : Stands cs s) where
     where
       shut : (c : Calculated) → Kept cs s (closed cs s c)
       shut (Value v) = settle-kept cs s st 2 (Number v) room
-      shut TooLarge = ends-kept cs s too_large
-      shut BelowZero = ends-kept cs s below_zero
-      shut Unknown = ends-kept cs s broken
+      shut TooLarge = ends-kept cs s _
+      shut BelowZero = ends-kept cs s _
+      shut Unknown = ends-kept cs s _

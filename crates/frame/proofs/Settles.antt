@@ -11,6 +11,7 @@ use lib.ListN.{length, get_or, drop}
 use Rattle.state.specs.declared.Operand.{Operand}
 use Rattle.state.specs.declared.Operand.TheVariants.{Empty}
 use Rattle.state.specs.declared.frames.State.{State}
+use Rattle.state.specs.declared.stops.Stop.{Stop}
 use Rattle.state.specs.code.Layout.{operand_cell, local_cell, room_cell}
 use Rattle.state.specs.code.Frames.{with_height, pushed_in, gone_to}
 use Rattle.machine.specs.code.Machine.{mframe, mstate, mnext}
@@ -32,7 +33,7 @@ kept cs ds s s' e h p q a b = (e, tidy, a, b)
       free_low = omega (arith, t.free_low);
     }
 
-pub ends-kept : (cs : List Operand) (s : State) (n : ℕ) → Kept cs s (ends cs s n)
+pub ends-kept : (cs : List Operand) (s : State) (n : Stop) → Kept cs s (ends cs s n)
 ends-kept cs s n = kept cs cs s _ refl (λ r l. refl) refl refl (omega arith) (omega arith)
 
 module _ (cs : List Operand) (s : State) (st : Stands cs s) where

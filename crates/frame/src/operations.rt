@@ -1,14 +1,15 @@
 // Op.
 ghost use Rattle.std.specs.Prelude.{◌≡◌};
+ghost use Rattle.arithmetic.specs.code.Results.{calculated_of};
 ghost use Rattle.state.specs.code.Coding.{value_of};
 ghost use Rattle.state.specs.code.Frames.{top_at};
 ghost use Rattle.state.specs.code.Cells.{cells_of};
 ghost use Rattle.frame.specs.code.Turning.{after, settled};
 ghost use Rattle.frame.specs.code.Operations.{closed, operated, op_of};
 
-use arithmetic::Calculated;
+use arithmetic::Failure;
 use state::frames::State;
-use state::stops;
+use state::stops::Stop;
 
 // The instruction took k operands and pushes one.
 pub fn settle(s: State, cells: &mut [u64], k: u8, tag: u64, w: u64) -> State
@@ -18,28 +19,26 @@ pub fn settle(s: State, cells: &mut [u64], k: u8, tag: u64, w: u64) -> State
 }
 
 // What an operation gave is pushed, or is a stop.
-fn close(s: State, cells: &mut [u64], x: Calculated) -> State
-    ensures { after result (cells_of cells.new) ≡ closed (cells_of cells.old) s x }
+#[tactic(auto, unfolding(state::specs::code::Coding::value_of, state::specs::code::Coding::values))]
+fn close(s: State, cells: &mut [u64], x: Result<u64, Failure>) -> State
+    ensures { after result (cells_of cells.new) ≡ closed (cells_of cells.old) s (calculated_of x) }
 {
     match x {
-        Calculated::Value(v) => settle(s, cells, 2, state::NUMBER, v),
-        Calculated::TooLarge => s.stopped(stops::TOO_LARGE),
-        Calculated::BelowZero => s.stopped(stops::BELOW_ZERO),
-        Calculated::Unknown => s.stopped(stops::BROKEN),
+        Ok(v) => settle(s, cells, 2, state::NUMBER, v),
+        Err(Failure::TooLarge) => s.stopped(Stop::TooLarge),
+        Err(Failure::BelowZero) => s.stopped(Stop::BelowZero),
+        Err(Failure::Unknown) => s.stopped(Stop::Broken),
     }
 }
 
 // What an operation gives of the two top operands, which are numbers.
-fn operated(s: State, cells: &[u64], b: u16) -> Calculated
-    ensures { result ≡ operated b (top_at (cells_of cells.now) s 1) (top_at (cells_of cells.now) s 0) }
+fn operated(s: State, cells: &[u64], b: u16) -> Result<u64, Failure>
+    ensures { calculated_of result ≡ operated b (top_at (cells_of cells.now) s 1) (top_at (cells_of cells.now) s 0) }
 {
-    if !s.has_number(cells, 1) {
-        return Calculated::Unknown;
+    if s.has_number(cells, 1) && s.has_number(cells, 0) {
+        return arithmetic::calculate(b, s.number(cells, 1), s.number(cells, 0));
     }
-    if !s.has_number(cells, 0) {
-        return Calculated::Unknown;
-    }
-    arithmetic::calculate(b, s.number(cells, 1), s.number(cells, 0))
+    Err(Failure::Unknown)
 }
 
 // Op.

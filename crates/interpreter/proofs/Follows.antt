@@ -14,8 +14,11 @@ use Rattle.semantics.proofs.Changes.{clash}
 use Rattle.acceptance.specs.Judged.{Judged}
 use Rattle.state.specs.declared.Operand.{Operand}
 use Rattle.state.specs.declared.frames.State.{State}
+use Rattle.state.specs.declared.stops.Stop.{Stop}
+use Rattle.state.specs.declared.stops.Stop.TheVariants.{Done, BudgetSpent}
+use Rattle.state.specs.code.Stops.{number_of as stop_number}
 use Rattle.state.specs.code.Layout.{all_cells}
-use Rattle.state.specs.code.Frames.{dropped, stopped_with}
+use Rattle.state.specs.code.Frames.{stop_of, dropped, stopped_with}
 use Rattle.machine.specs.code.Machine.{MState, mstate, MOutcome, mnext, mfinished, mstopped, mbroken, topmost}
 use Rattle.machine.specs.code.Runs.{mstep, MEnd, mend, monward, mgo}
 use Rattle.machine.specs.code.Lists.{MBase, mbase}
@@ -52,8 +55,8 @@ pub record Results (t : List ℕ) (cs : List Operand) (s : State) (xs : List Ope
 
 -- the end of a call, against that of the machine on lists
 abbrev pub EndOf : List ℕ → List Operand → State → MEnd → Type 0
-EndOf t cs s (mend m (mfinished xs (mstate f fs rooms recs es n))) = (s.stop ≡ done) × Results t cs s xs × (mbase rooms recs es n ≡ base_in cs s)
-EndOf t cs s (mend m (mstopped k)) = (s.stop ≡ k) × (k ≡ done → ⊥) × (k ≡ broken → ⊥) × (m ≡ view_of cs s)
+EndOf t cs s (mend m (mfinished xs (mstate f fs rooms recs es n))) = (stop_of s ≡ done) × Results t cs s xs × (mbase rooms recs es n ≡ base_in cs s)
+EndOf t cs s (mend m (mstopped k)) = (stop_of s ≡ k) × (k ≡ done → ⊥) × (k ≡ broken → ⊥) × (m ≡ view_of cs s)
 EndOf t cs s (mend m (mnext v)) = ⊥
 EndOf t cs s (mend m mbroken) = ⊥
 
@@ -91,18 +94,18 @@ module _ (k : ℕ) (cs : List Operand) (s : State) where
   by_stopped stop false false true j u e d q = absurd (clash (cc))
   by_stopped stop false false false j u e d q = let z : stop ≡ j = cc in (z, λ y. eqb-false stop 0 u (z ∙ y), λ y. eqb-false stop done e (z ∙ y), λ y. eqb-false stop broken d (z ∙ y))
 
-  is-next : (v : MState) → outcome_of k (after s cs) ≡ mnext v → (s.stop ≡ 0) × (view_of cs s ≡ v)
-  is-next v = by_next s.stop (eqb s.stop 0) (eqb s.stop done) (eqb s.stop broken) v refl
+  is-next : (v : MState) → outcome_of k (after s cs) ≡ mnext v → (stop_of s ≡ 0) × (view_of cs s ≡ v)
+  is-next v = by_next (stop_of s) (eqb (stop_of s) 0) (eqb (stop_of s) done) (eqb (stop_of s) broken) v refl
 
-  is-finished : (xs : List Operand) (v : MState) → outcome_of k (after s cs) ≡ mfinished xs v → (s.stop ≡ done) × (topmost k (operands_in cs s) ≡ xs) × (view_of cs (dropped s k) ≡ v)
-  is-finished xs v = by_finished s.stop (eqb s.stop 0) (eqb s.stop done) (eqb s.stop broken) xs v refl
+  is-finished : (xs : List Operand) (v : MState) → outcome_of k (after s cs) ≡ mfinished xs v → (stop_of s ≡ done) × (topmost k (operands_in cs s) ≡ xs) × (view_of cs (dropped s k) ≡ v)
+  is-finished xs v = by_finished (stop_of s) (eqb (stop_of s) 0) (eqb (stop_of s) done) (eqb (stop_of s) broken) xs v refl
 
-  is-stopped : (j : ℕ) → outcome_of k (after s cs) ≡ mstopped j → (s.stop ≡ j) × (j ≡ 0 → ⊥) × (j ≡ done → ⊥) × (j ≡ broken → ⊥)
-  is-stopped j = by_stopped s.stop (eqb s.stop 0) (eqb s.stop done) (eqb s.stop broken) j refl refl refl
+  is-stopped : (j : ℕ) → outcome_of k (after s cs) ≡ mstopped j → (stop_of s ≡ j) × (j ≡ 0 → ⊥) × (j ≡ done → ⊥) × (j ≡ broken → ⊥)
+  is-stopped j = by_stopped (stop_of s) (eqb (stop_of s) 0) (eqb (stop_of s) done) (eqb (stop_of s) broken) j refl refl refl
 
 module _ (t : List ℕ) (J : Judged t (index_of t)) where
   -- a call that ends here
-  ends-after : (left k : ℕ) (cs : List Operand) (s : State) → Going t left cs s → After left s cs (stopped_with s k)
+  ends-after : (left : ℕ) (k : Stop) (cs : List Operand) (s : State) → Going t left cs s → After left s cs (stopped_with s k)
   ends-after left k cs s g = record { whole = g.stands.whole; tidy = tidied; rooms_low = g.rooms_low; stored = g.stands.stored; records_more = omega arith; frames_more = omega arith }
     where
       tidied : Tidy cs (stopped_with s k)
@@ -113,7 +116,7 @@ module _ (t : List ℕ) (J : Judged t (index_of t)) where
     count = (procedure_in (index_of t) s.procedure).code - (procedure_in (index_of t) s.procedure).results
 
     -- the step goes on
-    goes_on : (s' : State) (cs' : List Operand) → s'.stop ≡ 0 → Bounded s s' → Kept cs s (after s' cs') → Live t (view_of cs' s') → Going t left cs' s'
+    goes_on : (s' : State) (cs' : List Operand) → stop_of s' ≡ 0 → Bounded s s' → Kept cs s (after s' cs') → Live t (view_of cs' s') → Going t left cs' s'
     goes_on s' cs' e b k l = record {
       stands = live_stands t J cs' s' l (k.0 ∙ g.stands.whole) e (b.depth_low g.stands.shallow) (b.entries-low g.stands.stored) (k.1 g.stands.tidy);
       rooms_low = b.rooms_low g.rooms_low;
@@ -129,19 +132,19 @@ module _ (t : List ℕ) (J : Judged t (index_of t)) where
     finished-go : (b : Bool) → eqb (row t J cs s g.live).a 16 ≡ b → (turn : Turning) → Shape cs s b turn → (xs : List Operand) (v : MState) → outcome_of count turn ≡ mfinished xs v → Numbers xs
         → Ends t (suc left) s (onward turn (run_from t (index_of t) left)) (mend (view_of cs s) (mfinished xs v))
     finished-go b r turn (goes {s'} {cs'} o) xs v q n = let f = is-finished count cs' s' xs v q in absurd (omega (arith, f.0, o.runs_on, g.stands.running))
-    finished-go b r turn (stays k z) xs v q n = let f = is-finished count cs (stopped_with s k) xs v q in absurd (omega (arith, f.0, ltb-true done k z))
+    finished-go b r turn (stays k z) xs v q n = let f = is-finished count cs (stopped_with s k) xs v q in absurd (omega (arith, f.0, ltb-true done (stop_number k) z))
     finished-go true r turn (finishes o) xs (mstate f fs rooms recs es m) q n =
-        let z = is-finished count cs (stopped_with s done) xs (mstate f fs rooms recs es m) q in
+        let z = is-finished count cs (stopped_with s Done) xs (mstate f fs rooms recs es m) q in
         let a = eqb-true _ 16 r in
         let w = returns t J cs s g.live a in
-        ((refl, record { outermost = o; many = sym z.1; few = omega (arith, w.0, w.1); there = omega (arith, w.0, taken t J cs s g.live); numbers = n }, cc), ends-after (suc left) done cs s g)
+        ((refl, record { outermost = o; many = sym z.1; few = omega (arith, w.0, w.1); there = omega (arith, w.0, taken t J cs s g.live); numbers = n }, cc), ends-after (suc left) Done cs s g)
 
     -- it stops
     stopped-go : (b : Bool) (turn : Turning) → Shape cs s b turn → (j : ℕ) → outcome_of count turn ≡ mstopped j → Ends t (suc left) s (onward turn (run_from t (index_of t) left)) (mend (view_of cs s) (mstopped j))
     stopped-go b turn (goes {s'} {cs'} o) j q = let f = is-stopped count cs' s' j q in absurd (f.1 (omega (arith, f.0, o.runs_on, g.stands.running)))
     stopped-go b turn (stays k z) j q =
         let f = is-stopped count cs (stopped_with s k) j q in
-        let y : eqb k 0 ≡ false = ne_eqb k 0 (λ u. f.1 (sym f.0 ∙ u)) in
+        let y : eqb (stop_number k) 0 ≡ false = ne_eqb (stop_number k) 0 (λ u. f.1 (sym f.0 ∙ u)) in
         rw y ((f.0, f.2, f.3, refl), ends-after (suc left) k cs s g)
     stopped-go true turn (finishes o) j q = absurd (clash (cc))
 
@@ -150,8 +153,8 @@ module _ (t : List ℕ) (J : Judged t (index_of t)) where
         → Ends t (suc left) s (onward turn (run_from t (index_of t) left)) (mgo t (index_of t) left v)
     next-go b turn (goes {s'} {cs'} o) k v q l rest =
         let f = is-next count cs' s' v q in
-        rw (eq-eqb s'.stop 0 f.0) (more s' cs' (run_from t (index_of t) left cs' s') (mgo t (index_of t) left v) k (rw f.1 at (rest cs' s' (goes_on s' cs' f.0 o k (subst (Live t) (sym f.1) l)))))
-    next-go b turn (stays j z) k v q l rest = absurd (omega (arith, (is-next count cs (stopped_with s j) v q).0, ltb-true done j z))
+        rw (eq-eqb (stop_of s') 0 f.0) (more s' cs' (run_from t (index_of t) left cs' s') (mgo t (index_of t) left v) k (rw f.1 at (rest cs' s' (goes_on s' cs' f.0 o k (subst (Live t) (sym f.1) l)))))
+    next-go b turn (stays j z) k v q l rest = absurd (omega (arith, (is-next count cs (stopped_with s j) v q).0, ltb-true done (stop_number j) z))
     next-go true turn (finishes o) k v q l rest = absurd (clash (cc))
 
     step-ends : (turn : Turning) → Shape cs s (eqb (row t J cs s g.live).a 16) turn → Kept cs s turn → (o : MOutcome) → outcome_of count turn ≡ o → LiveOutcome t o
@@ -164,7 +167,7 @@ module _ (t : List ℕ) (J : Judged t (index_of t)) where
 
   pub run_follows : (left : ℕ) (cs : List Operand) (s : State) → Going t left cs s → Ends t left s (run_from t (index_of t) left cs s) (mgo t (index_of t) left (view_of cs s))
   unfolding run_from mgo
-  run_follows zero cs s g = ((refl, (λ y. omega arith), (λ y. omega arith), refl), ends-after zero budget_spent cs s g)
+  run_follows zero cs s g = ((refl, (λ y. omega arith), (λ y. omega arith), refl), ends-after zero BudgetSpent cs s g)
   run_follows (suc left) cs s g =
       let r : s.records < 4294967295 = omega (arith, g.records-few) in
       let f : s.frames < 4294967295 = omega (arith, g.frames-few) in
@@ -179,17 +182,17 @@ module _ (t : List ℕ) (J : Judged t (index_of t)) where
       (rest : (cs' : List Operand) (s' : State) → Going t left cs' s' → same_from t (index_of t) left cs' s' ≡ true → Untouched cs' s' (run_from t (index_of t) left cs' s')) where
     untouched_go : (b : Bool) (turn : Turning) → Shape cs s b turn → (changes_memory (row_of t (index_of t) s).a ≡ false → Untouched cs s turn) → Kept cs s turn → LiveOutcome t (outcome_of (count left cs s g) turn)
         → same_onward turn (λ (cs' : List Operand) (s' : State). same_by (same_from t (index_of t) left cs' s') (row_of t (index_of t) s).a) ≡ true → Untouched cs s (onward turn (run_from t (index_of t) left))
-    untouched_go b turn (stays j z) u k l e = let y : eqb j 0 ≡ false = ne_eqb j 0 (λ q. omega (arith, ltb-true done j z)) in rw y (ending cs s j)
-    untouched_go true turn (finishes o) u k l e = ending cs s done
+    untouched_go b turn (stays j z) u k l e = let y : eqb (stop_number j) 0 ≡ false = ne_eqb (stop_number j) 0 (λ q. omega (arith, ltb-true done (stop_number j) z)) in rw y (ending cs s j)
+    untouched_go true turn (finishes o) u k l e = ending cs s Done
     untouched_go b turn (goes {s'} {cs'} o) u k l e =
-        let q : s'.stop ≡ 0 = o.runs_on ∙ g.stands.running in
-        let y = eq-eqb s'.stop 0 q in
+        let q : stop_of s' ≡ 0 = o.runs_on ∙ g.stands.running in
+        let y = eq-eqb (stop_of s') 0 q in
         let n = not-changed _ _ (rw y at e) in
         rw y (untouched_trans cs cs' s s' (run_from t (index_of t) left cs' s') (u n.0) (rest cs' s' (goes_on left cs s g s' cs' q o k (rw y at l)) n.1))
 
   pub run_untouched : (left : ℕ) (cs : List Operand) (s : State) → Going t left cs s → same_from t (index_of t) left cs s ≡ true → Untouched cs s (run_from t (index_of t) left cs s)
   unfolding run_from same_from
-  run_untouched zero cs s g e = ending cs s budget_spent
+  run_untouched zero cs s g e = ending cs s BudgetSpent
   run_untouched (suc left) cs s g e =
       let r : s.records < 4294967295 = omega (arith, g.records-few) in
       let f : s.frames < 4294967295 = omega (arith, g.frames-few) in

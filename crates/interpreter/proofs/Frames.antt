@@ -23,6 +23,7 @@ use Rattle.semantics.proofs.Entering.{has_length}
 use Rattle.state.specs.declared.Operand.{Operand}
 use Rattle.state.specs.declared.Operand.TheVariants.{Empty, Number, Record, Refer}
 use Rattle.state.specs.declared.frames.State.{State}
+use Rattle.state.specs.code.Frames.{stop_of}
 use Rattle.state.specs.code.Coding.{second_of, third_of}
 use Rattle.state.specs.code.Layout.{operand_cell, local_cell, suspended_cell, room_cell, all_cells}
 use Rattle.machine.specs.code.Machine.{MFrame, mframe, MRoom, mroom, MEntry, mstate}
@@ -134,7 +135,7 @@ module _ (t : List ℕ) (J : Judged t (index_of t)) {R D T : List ℕ} {rs : Lis
   fields-few r l = fields_go r l (get_or cs (room_cell r) Empty) refl
 
 -- all of it
-pub live_stands : (t : List ℕ) → Judged t (index_of t) → (cs : List Operand) (s : State) → Live t (view_of cs s) → length cs ≡ all_cells → s.stop ≡ 0 → s.depth < 16 → s.entries ≤ 64 → Tidy cs s → Stands cs s
+pub live_stands : (t : List ℕ) → Judged t (index_of t) → (cs : List Operand) (s : State) → Live t (view_of cs s) → length cs ≡ all_cells → stop_of s ≡ 0 → s.depth < 16 → s.entries ≤ 64 → Tidy cs s → Stands cs s
 live_stands t J cs s l whole running shallow stored tidy = go (all_fit t J l.6.frames l.7.frames)
   where
     go : All FrameFits (frame_in cs s ∷ below_in cs s.depth) → Stands cs s

@@ -1,5 +1,5 @@
 -- Cells that are kept before a call and put back after a stop, and the cells in which a call begins.
-use Prim.Native.Nat.{ℕ, zero, suc, ◌+◌, ◌*◌, ◌/◌, ◌≤◌, ◌<◌}
+use Prim.Native.Nat.{ℕ, zero, suc, ◌+◌, ◌-◌, ◌*◌, ◌/◌, ◌≤◌, ◌<◌}
 use mathlib.Core.Path.{◌≡◌, refl, ap, sym, ◌∙◌, subst}
 use mathlib.Core.Bool.{Bool, true, false, cond}
 use mathlib.Core.Logic.{◌⊎◌, inl, inr}
@@ -7,6 +7,10 @@ use mathlib.Core.List.{List, [], ◌∷◌, map}
 use native.Mathlib.Decide.{dec_lt}
 use native.Mathlib.Omega.{arith}
 use native.Mathlib.Numerals.{add-one}
+use borrow.Author.Rules.{rules}
+use borrow.Rule.Slice.PartMut.{put_mid}
+use Rattle.std.specs.List.{between}
+use Rattle.std.proofs.lemmas.List.{ext_get_or, places}
 use borrow.Author.Tests.{le-leb, lt-leb}
 use lib.Dec.{leb}
 use lib.ListN.{length, get_or, set, drop, length-set}
@@ -41,6 +45,18 @@ module _ {A : Type 0} (z : A) (ks cs : List A) (at : ℕ) where
       go : Dec (i < at + k) → (i < at + k → get_or (carried z ks cs at k) i z ≡ get_or cs i z) → get_or (set (carried z ks cs at k) (at + k) (get_or cs (at + k) z)) i z ≡ get_or cs i z
       go (yes o) rest = get_or-set_other (carried z ks cs at k) (at + k) i (get_or cs (at + k) z) z (λ q. omega arith) ∙ rest o
       go (no o) rest = let e : i ≡ at + k = omega arith in rw e (get_or-set_same (carried z ks cs at k) (at + k) (get_or cs (at + k) z) z (omega (arith, length-carried k)))
+
+-- a part of a list copied over that of another
+pub copied-part : (ks cs ys : List ℕ) (at k : ℕ) → at + k ≤ length ks → at + k ≤ length cs → ys ≡ between at (at + k) cs → put_mid at (at + k - at) ks ys ≡ carried 0 ks cs at k
+copied-part ks cs ys at k a b e = rw e (ext_get_or 0 (put_mid at (at + k - at) ks (between at (at + k) cs)) (carried 0 ks cs at k) (rw (length-carried 0 ks cs at k) same-length) (λ i l. go i (dec_lt i at) (dec_lt i (at + k))))
+  where
+    same-length : length (put_mid at (at + k - at) ks (between at (at + k) cs)) ≡ length ks
+    same-length = grind (arith, places)
+
+    go : (i : ℕ) → Dec (i < at) → Dec (i < at + k) → get_or (put_mid at (at + k - at) ks (between at (at + k) cs)) i 0 ≡ get_or (carried 0 ks cs at k) i 0
+    go i (yes l) h = rw (carried_other 0 ks cs at k i (inl l)) (search (rules, places))
+    go i (no l) (yes h) = rw (carried-there 0 ks cs at k i a (omega arith) h) (search (rules, places))
+    go i (no l) (no h) = rw (carried_other 0 ks cs at k i (inr (omega arith))) (search (rules, places))
 
 -- cells kept
 module _ (ks cs : List Operand) (at k : ℕ) (a : at + k ≤ length ks) (b : at + k ≤ length cs) where

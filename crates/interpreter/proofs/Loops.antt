@@ -15,8 +15,9 @@ use Rattle.semantics.specs.Calls.{call}
 use Rattle.semantics.specs.Limits.{budget_spent}
 use Rattle.state.specs.declared.Operand.{Operand}
 use Rattle.state.specs.declared.frames.State.{State}
+use Rattle.state.specs.declared.stops.Stop.TheVariants.{BudgetSpent}
 use Rattle.state.specs.code.Cells.{emptied}
-use Rattle.state.specs.code.Frames.{stopped_with}
+use Rattle.state.specs.code.Frames.{stop_of, stopped_with}
 use Rattle.frame.specs.code.Turning.{Turning, after}
 use Rattle.frame.specs.code.Control.{within}
 use Rattle.step.specs.code.Step.{turn_of}
@@ -27,16 +28,16 @@ module _ (t : List ℕ) (ix : Index) (cs : List Operand) (s : State) (left : ℕ
   -- a step that ends the call, and one that does not
   module _ (more : 0 < left) (row : Row) (q : row ≡ row_at (code_of t (procedure_of ix s.procedure)) s.at) (s' : State) (cs' : List Operand)
       (e : after s' cs' ≡ turn_of t row (procedure_of ix s.procedure) (type_of ix row.b) (procedure_of ix row.b) cs s) where
-    pub run_ends : (s'.stop ≡ 0 → ⊥) → after s' cs' ≡ whole
+    pub run_ends : (stop_of s' ≡ 0 → ⊥) → after s' cs' ≡ whole
     unfolding run_from turn_at row_of
-    run_ends h = let n : left ≡ suc (left - 1) = omega arith in sym (same ∙ rw (n, ← q, ← e, ne_eqb s'.stop 0 h))
+    run_ends h = let n : left ≡ suc (left - 1) = omega arith in sym (same ∙ rw (n, ← q, ← e, ne_eqb (stop_of s') 0 h))
 
-    pub run_on : s'.stop ≡ 0 → whole ≡ run_from t ix (left - 1) cs' s'
+    pub run_on : stop_of s' ≡ 0 → whole ≡ run_from t ix (left - 1) cs' s'
     unfolding run_from turn_at row_of
-    run_on h = let n : left ≡ suc (left - 1) = omega arith in same ∙ ap (λ (k : ℕ). run_from t ix k cs s) n ∙ rw (← q, ← e, eq-eqb s'.stop 0 h)
+    run_on h = let n : left ≡ suc (left - 1) = omega arith in same ∙ ap (λ (k : ℕ). run_from t ix k cs s) n ∙ rw (← q, ← e, eq-eqb (stop_of s') 0 h)
 
   -- the budget is spent
-  pub run_spent : left ≤ 0 → {r : State} → r ≡ stopped_with s budget_spent → after r cs ≡ whole
+  pub run_spent : left ≤ 0 → {r : State} → r ≡ stopped_with s BudgetSpent → after r cs ≡ whole
   unfolding run_from
   run_spent h e = let n : left ≡ 0 = omega arith in sym (same ∙ rw (n, e))
 
@@ -48,15 +49,15 @@ as_was false = refl
 module _ (t : List ℕ) (ix : Index) (cs : List Operand) (s : State) (left : ℕ) where
   module _ (more : 0 < left) (row : Row) (q : row ≡ row_at (code_of t (procedure_of ix s.procedure)) s.at) (s' : State) (cs' : List Operand)
       (e : after s' cs' ≡ turn_of t row (procedure_of ix s.procedure) (type_of ix row.b) (procedure_of ix row.b) cs s) where
-    one-step : same_from t ix left cs s ≡ cond (eqb s'.stop 0) (same_by (same_from t ix (left - 1) cs' s') row.a) true
+    one-step : same_from t ix left cs s ≡ cond (eqb (stop_of s') 0) (same_by (same_from t ix (left - 1) cs' s') row.a) true
     unfolding same_from turn_at row_of
     one-step = let n : left ≡ suc (left - 1) = omega arith in ap (λ (k : ℕ). same_from t ix k cs s) n ∙ rw (← q, ← e)
 
-    pub same_ends : (same : Bool) {whole : Bool} → whole ≡ cond same (same_from t ix left cs s) false → (s'.stop ≡ 0 → ⊥) → same ≡ whole
-    same_ends same p h = sym (p ∙ rw (one-step, ne_eqb s'.stop 0 h) (as_was same))
+    pub same_ends : (same : Bool) {whole : Bool} → whole ≡ cond same (same_from t ix left cs s) false → (stop_of s' ≡ 0 → ⊥) → same ≡ whole
+    same_ends same p h = sym (p ∙ rw (one-step, ne_eqb (stop_of s') 0 h) (as_was same))
 
-    pub same-on : (same : Bool) {whole same' : Bool} → whole ≡ cond same (same_from t ix left cs s) false → same' ≡ same_by same row.a → s'.stop ≡ 0 → whole ≡ cond same' (same_from t ix (left - 1) cs' s') false
-    same-on same p d h = p ∙ rw (one-step, eq-eqb s'.stop 0 h, d) (go same (changes_memory row.a) (same_from t ix (left - 1) cs' s'))
+    pub same-on : (same : Bool) {whole same' : Bool} → whole ≡ cond same (same_from t ix left cs s) false → same' ≡ same_by same row.a → stop_of s' ≡ 0 → whole ≡ cond same' (same_from t ix (left - 1) cs' s') false
+    same-on same p d h = p ∙ rw (one-step, eq-eqb (stop_of s') 0 h, d) (go same (changes_memory row.a) (same_from t ix (left - 1) cs' s'))
       where
         go : (b c x : Bool) → cond b (cond c false x) false ≡ cond (cond c false b) x false
         go true true x = refl

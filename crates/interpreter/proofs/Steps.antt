@@ -16,6 +16,7 @@ use Rattle.state.specs.declared.Operand.{Operand}
 use Rattle.state.specs.declared.Operand.TheVariants.{Number, Record, Refer}
 use Rattle.state.specs.declared.Reference.TheVariants.{Local}
 use Rattle.state.specs.declared.frames.State.{State}
+use Rattle.state.specs.declared.stops.Stop.TheVariants.{Broken}
 use Rattle.state.specs.code.Coding.{second_of}
 use Rattle.state.specs.code.Layout.{operand_cell, room_cell}
 use Rattle.state.specs.code.Frames.{top_at, gone_to, gone_on}
@@ -70,7 +71,7 @@ module _ (t : List ℕ) (J : Judged t (index_of t)) (cs : List Operand) (s : Sta
   abbrev all : List Turning
   all = turns now.b now.d (local_kind t me now.b) (named.end - (named.row + 1)) (parameters_end t callee - (callee.row + 1)) (local_count callee) results cs s
 
-  step_turn : step_at t (index_of t) cs s ≡ get_or all now.a (ends cs s broken)
+  step_turn : step_at t (index_of t) cs s ≡ get_or all now.a (ends cs s Broken)
   unfolding turn_at turn_of
   step_turn = rw (row_same t J cs s l, own_same t J cs s l)
 
@@ -135,7 +136,7 @@ module _ (t : List ℕ) (J : Judged t (index_of t)) (cs : List Operand) (s : Sta
 
     pub step_is : outcome_of results (step_at t (index_of t) cs s) ≡ mstep t (index_of t) (view_of cs s)
     unfolding turns
-    step_is = rw (step_turn, step_doing) (each-listed (λ (a : ℕ) (turn : Turning). now.a ≡ a → outcome_of results turn ≡ doing now.b now.d kind many others cs s a) all (ends cs s broken) by_opcode now.a (opcode t J cs s l) refl)
+    step_is = rw (step_turn, step_doing) (each-listed (λ (a : ℕ) (turn : Turning). now.a ≡ a → outcome_of results turn ≡ doing now.b now.d kind many others cs s a) all (ends cs s Broken) by_opcode now.a (opcode t J cs s l) refl)
 
     kept_by_opcode : Each (λ (a : ℕ) (turn : Turning). now.a ≡ a → Kept cs s turn) all
     unfolding turns
@@ -167,7 +168,7 @@ module _ (t : List ℕ) (J : Judged t (index_of t)) (cs : List Operand) (s : Sta
 
     pub step_kept : Kept cs s (step_at t (index_of t) cs s)
     unfolding turns
-    step_kept = rw step_turn (each-listed (λ (a : ℕ) (turn : Turning). now.a ≡ a → Kept cs s turn) all (ends cs s broken) kept_by_opcode now.a (opcode t J cs s l) refl)
+    step_kept = rw step_turn (each-listed (λ (a : ℕ) (turn : Turning). now.a ≡ a → Kept cs s turn) all (ends cs s Broken) kept_by_opcode now.a (opcode t J cs s l) refl)
 
   untouched_by_opcode : Each (λ (a : ℕ) (turn : Turning). now.a ≡ a → changes_memory a ≡ false → Untouched cs s turn) all
   unfolding turns changes_memory
@@ -197,4 +198,4 @@ module _ (t : List ℕ) (J : Judged t (index_of t)) (cs : List Operand) (s : Sta
 
   pub step_untouched : changes_memory (row_of t (index_of t) s).a ≡ false → Untouched cs s (step_at t (index_of t) cs s)
   unfolding turns
-  step_untouched c = rw step_turn (each-listed (λ (a : ℕ) (turn : Turning). now.a ≡ a → changes_memory a ≡ false → Untouched cs s turn) all (ends cs s broken) untouched_by_opcode now.a (opcode t J cs s l) refl (rw (row_same t J cs s l) at c))
+  step_untouched c = rw step_turn (each-listed (λ (a : ℕ) (turn : Turning). now.a ≡ a → changes_memory a ≡ false → Untouched cs s turn) all (ends cs s Broken) untouched_by_opcode now.a (opcode t J cs s l) refl (rw (row_same t J cs s l) at c))

@@ -6,12 +6,13 @@ ghost use Rattle.table.specs.Rows.{row_at, row_count};
 ghost use Rattle.declarations.specs.Program.{code_of};
 ghost use Rattle.semantics.specs.Calls.{arguments, call};
 ghost use Rattle.state.specs.code.Cells.{cells_of};
+ghost use Rattle.state.specs.code.Frames.{stop_of};
 ghost use Rattle.frame.specs.code.Turning.{after};
 ghost use Rattle.interpreter.specs.code.Run.{same_by, run_from, same_from};
 ghost use Rattle.interpreter.specs.code.Calls.{carried, kept, kept_of, kept_since, freed, filled, begun, restored_to, same_restored, call_turn, same_call};
 
 use state::frames::State;
-use state::stops;
+use state::stops::Stop;
 use table::index::{Index, ProcedureEntry};
 use table::{Row, format};
 
@@ -36,15 +37,16 @@ fn marked(left: u64) -> u64
 }
 
 // Marked where an instruction can change entries or rooms: WriteRef, Pack, Unpack, MoveTo and MoveFrom can.
+#[tactic(auto, unfolding(crate::specs::code::Run::changes_memory))]
 fn marked_by(left: u64, opcode: u8) -> u64
     ensures { (result / 2 ≡ left / 2) × (eqb (result % 2) 0 ≡ same_by (eqb (left % 2) 0) opcode) }
 {
     match opcode {
-        format::WRITE_REF => marked(left),
-        format::PACK => marked(left),
-        format::UNPACK => marked(left),
-        format::MOVE_TO => marked(left),
-        format::MOVE_FROM => marked(left),
+        format::WRITE_REF
+        | format::PACK
+        | format::UNPACK
+        | format::MOVE_TO
+        | format::MOVE_FROM => marked(left),
         _ => left,
     }
 }
@@ -70,7 +72,7 @@ pub fn run(s: State, cells: &mut [u64], table: &[u8], index: Index, budget: u32)
         let named = index.type_entries[(row.b % 64) as usize];
         let callee = index.procedure_entries[(row.b % 128) as usize];
         now = step::step(now, cells, table, row, own, named, callee);
-        if now.stop != 0 {
+        if now.stop.is_some() {
             return Ran {
                 state: now,
                 same: is_unmarked(left),
@@ -79,7 +81,7 @@ pub fn run(s: State, cells: &mut [u64], table: &[u8], index: Index, budget: u32)
         left = marked_by(left, row.a);
     }
     Ran {
-        state: now.stopped(stops::BUDGET_SPENT),
+        state: now.stopped(Stop::BudgetSpent),
         same: is_unmarked(left),
     }
 }
@@ -89,11 +91,7 @@ fn copy_numbers(to: &mut [u64], from: &[u64], at: usize, k: usize)
     requires { (at + k ≤ length to.old) × (at + k ≤ length from.now) }
     ensures { to.new ≡ carried 0 to.old from.now at k }
 {
-    let mut j: usize = 0;
-    while j < k {
-        to[at + j] = from[at + j];
-        j += 1;
-    }
+    to[at..at + k].copy_from_slice(&from[at..at + k]);
 }
 
 // Copies the k cells from cell `at` on, where they are in both.
@@ -102,13 +100,9 @@ fn keep(to: &mut [u64], from: &[u64], at: u16, k: u16)
 {
     let first = 2 * (at as usize);
     let n = 2 * (k as usize);
-    if to.len() < first + n {
-        return;
+    if first + n <= to.len() && first + n <= from.len() {
+        copy_numbers(to, from, first, n);
     }
-    if from.len() < first + n {
-        return;
-    }
-    copy_numbers(to, from, first, n);
 }
 
 // Copies the entries and the rooms of a state.
@@ -123,20 +117,17 @@ fn keep_memory(to: &mut [u64], from: &[u64], s: State)
 fn keep_changed(to: &mut [u64], from: &[u64], s: State, same: bool)
     ensures { cells_of to.new ≡ kept_since same (cells_of to.old) (cells_of from.now) s }
 {
-    if same {
-        return;
+    if !same {
+        keep_memory(to, from, s);
     }
-    keep_memory(to, from, s);
 }
 
 // Empties the heads of n rooms from room r on.
 fn free_rooms(cells: &mut [u64], r: u8, n: u8)
     ensures { cells_of cells.new ≡ freed (cells_of cells.old) r n }
 {
-    let mut j: u8 = 0;
-    while j < n {
+    for j in 0..n {
         state::clear(cells, 672 + 9 * ((r as usize) + (j as usize)));
-        j += 1;
     }
 }
 
@@ -148,15 +139,13 @@ fn put_arguments(cells: &mut [u64], list: &[u8], i: usize)
         return;
     }
     let n = calls::argument_count(list, i);
-    let mut k: usize = 0;
-    while k < n {
+    for k in 0..n {
         state::put(
             cells,
             16 + k,
             state::NUMBER,
             table::row_at(list, i + 1 + k).d,
         );
-        k += 1;
     }
 }
 
@@ -170,20 +159,17 @@ fn begin(mut s: State, procedure: u16, count: u8) -> State
     s.depth = 0;
     s.height = 0;
     s.count = count;
-    s.stop = 0;
+    s.stop = None;
     s.frames = state::frames::next_serial(s.frames);
     s
 }
 
 // After a call: where it is not done, entries and rooms are those of its beginning, which are kept.
 fn restore(ran: Ran, cells: &mut [u64], saved: &[u64], first: State) -> Ran
-    ensures { (after result.state (cells_of cells.new) ≡ restored_to (cells_of saved.now) first ran.same (after ran.state (cells_of cells.old))) × (result.same ≡ same_restored ran.same result.state.stop) }
+    ensures { (after result.state (cells_of cells.new) ≡ restored_to (cells_of saved.now) first ran.same (after ran.state (cells_of cells.old))) × (result.same ≡ same_restored ran.same (stop_of result.state)) }
 {
-    if ran.same {
-        return ran;
-    }
     let s = ran.state;
-    if s.stop == stops::DONE {
+    if ran.same || s.stop == Some(Stop::Done) {
         return ran;
     }
     keep_memory(cells, saved, first);
@@ -212,11 +198,11 @@ pub fn call(
     list: &[u8],
     i: usize,
 ) -> Ran
-    ensures { (after result.state (cells_of cells.new) ≡ call_turn table.now index (cells_of cells.old) (kept_since before.same (cells_of saved.old) (cells_of cells.old) before.state) before.state (call (row_at list.now i).b (row_at list.now i).c (arguments list.now (i + 1) (row_count list.now - (i + 1))))) × (result.same ≡ same_restored (same_call table.now index (cells_of cells.old) before.state (call (row_at list.now i).b (row_at list.now i).c (arguments list.now (i + 1) (row_count list.now - (i + 1))))) result.state.stop) × (cells_of saved.new ≡ kept_since before.same (cells_of saved.old) (cells_of cells.old) before.state) }
+    ensures { (after result.state (cells_of cells.new) ≡ call_turn table.now index (cells_of cells.old) (kept_since before.same (cells_of saved.old) (cells_of cells.old) before.state) before.state (call (row_at list.now i).b (row_at list.now i).c (arguments list.now (i + 1) (row_count list.now - (i + 1))))) × (result.same ≡ same_restored (same_call table.now index (cells_of cells.old) before.state (call (row_at list.now i).b (row_at list.now i).c (arguments list.now (i + 1) (row_count list.now - (i + 1))))) (stop_of result.state)) × (cells_of saved.new ≡ kept_since before.same (cells_of saved.old) (cells_of cells.old) before.state) }
 {
     let s = before.state;
     let row = table::row_at(list, i);
-    let callee = calls::procedure_in(index, row.b as usize);
+    let callee = declarations::procedure_in(&index, row.b as usize);
     let count = frame::control::within(declarations::local_count(callee));
     keep_changed(saved, cells, s, before.same);
     state::empty_cells(cells, 16, count as u16);

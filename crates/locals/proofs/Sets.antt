@@ -1,18 +1,16 @@
 -- Laws of sets of locals.
-use Prim.Native.Nat.{ℕ, zero, suc, ◌+◌, ◌<◌, ◌≤◌}
+use Prim.Native.Nat.{ℕ, zero, suc, ◌<◌, ◌≤◌}
 use mathlib.Core.Path.{◌≡◌, refl, sym, ap, ◌∙◌}
 use mathlib.Core.List.{List}
 use mathlib.Core.Bool.{Bool, true, false, cond, ◌&&◌, and-false}
-use mathlib.Core.Logic.{◌⊎◌, inl, inr}
 use native.Mathlib.Decide.{ℕ_discrete, dec_lt}
-use native.Mathlib.Numerals.{add-one}
 use native.Mathlib.Omega.{arith}
 use borrow.Author.Tests.{lt-ltb, le-ltb}
 use lib.Dec.{ltb}
 use lib.ListN.{length, get_or, replicate, length-set, length-replicate, get_or-replicate, get_or-eq_default}
 use lib.Seq.{get_or-set_same, get_or-set_other, set_out}
 use Rattle.locals.specs.declared.LocalSet.{LocalSet}
-use Rattle.locals.specs.code.Sets.{no_locals, inserted, contains, those}
+use Rattle.locals.specs.code.Sets.{inserted, contains, those}
 
 -- a number that is no local's
 pub insert_past : (s : LocalSet) → length s.has ≡ 16 → (l : ℕ) → 16 ≤ l → s ≡ inserted s l
@@ -21,16 +19,6 @@ insert_past s size l h = ap (λ (x : List Bool). record { has = x }) (sym (set_o
 
 -- the locals of which a test holds
 module _ (test : ℕ → Bool) where
-  pub those-none : no_locals ≡ those test 0
-  unfolding those
-  those-none = refl
-
-  -- one number more, which goes in where the test holds
-  pub those_more : (n : ℕ) {s r : LocalSet} {b : Bool} → s ≡ those test n → b ≡ test n → ((b ≡ true) × (r ≡ inserted s n)) ⊎ ((b ≡ false) × (r ≡ s)) → r ≡ those test (n + 1)
-  unfolding those
-  those_more n e q (inl (h, d)) = d ∙ rw (add-one, sym q ∙ h, e)
-  those_more n e q (inr (h, d)) = d ∙ rw (add-one, sym q ∙ h) e
-
   length-those : (n : ℕ) → length (those test n).has ≡ 16
   unfolding those inserted
   length-those zero = refl

@@ -152,6 +152,7 @@ impl<'a> Arrival<'a> {
     }
 
     // The locals that are full on every walk.
+    #[tactic(auto, unfolding(crate::specs::code::Sets::those))]
     fn always_full(&self) -> LocalSet
         ensures { result ≡ those (λ (l : ℕ). not (empty_at self.now.nodes.now self.now.n l self.now.i)) self.now.count }
     {
@@ -212,6 +213,7 @@ fn is_record_local(table: &[u8], p: ProcedureEntry, l: usize) -> bool
 }
 
 // The locals of a procedure that are records.
+#[tactic(auto, unfolding(crate::specs::code::Sets::those))]
 fn record_locals(table: &[u8], p: ProcedureEntry, count: usize) -> LocalSet
     requires { count ≤ 16 }
     ensures { result ≡ those (λ (l : ℕ). is_record (local_kind table.now p l)) count }

@@ -8,9 +8,7 @@ use native.Mathlib.Omega.{arith}
 use borrow.Author.Tests.{ltb-true, ltb-false, lt-ltb, le-ltb}
 use lib.Dec.{eqb, ltb}
 use lib.ListN.{length, get_or, set, take, drop, replicate, length-append, get_elem? as nth}
-use Rattle.arithmetic.specs.declared.Calculated.{Calculated}
-use Rattle.arithmetic.specs.declared.Calculated.TheVariants.{Value as Gives, TooLarge, BelowZero, Unknown}
-use Rattle.arithmetic.specs.Arithmetic.{calculation}
+use Rattle.arithmetic.specs.Arithmetic.{Calculated, Value as Gives, TooLarge, BelowZero, Unknown, calculation}
 use Rattle.semantics.specs.Machine as Rules
 use Rattle.semantics.specs.Machine.{Ref, Value, num, obj, refer, writable, Cell, gone, here, Entry, entry, Frame, frame, state, Outcome, next, stopped, stuck, content, local_of, live_count, Target, a_number, in_cell, target, write_frames, write_records}
 use Rattle.semantics.specs.Step.{pushed_on, Taken, missing, took, also_taken, taken, one, two, with_number, with_record, with_reference, number_at, record_at, fields_at, with_local, is_object, fillable, none_held, nothing_under, field_reference, under_key, start_locals, returned, push, push_and_set, push_with_records, push_with_store, lead, calculated, actions}

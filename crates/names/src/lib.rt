@@ -144,16 +144,8 @@ pub fn names_with(table: &[u8], index: Index) -> Result<usize, Refusal>
     let mut p = 0;
     for i in 0..n {
         let row = table::row_at(table, i);
-        let named = index
-            .type_entries
-            .get(usize::from(row.b / 8))
-            .copied()
-            .unwrap_or(TypeEntry::NONE);
-        let starts = index
-            .procedure_entries
-            .get(p)
-            .copied()
-            .unwrap_or(ProcedureEntry::NONE);
+        let named = declarations::type_in(&index, (row.b / 8) as usize);
+        let starts = declarations::procedure_in(&index, p);
         let scope = Scope {
             types: index.types,
             procedures: index.procedures,

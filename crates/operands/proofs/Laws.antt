@@ -78,6 +78,8 @@ module _ (c : List ℕ) (m₀ marks : List Bool) (i : ℕ) (e : marks ≡ target
   mark_none j (inl (_, h)) = mark_other (far_jump (rw marks_length at h))
   mark_none j (inr h) = mark_other (no_jump (sym j ∙ h))
 
+pub ruleset marking = (marks_none, marks_length, mark_none, mark_jump)
+
 -- marks that start empty tell the targets
 pub told_marks : (c : List ℕ) (m : List Bool) (k : ℕ) → m ≡ target_marks c (replicate k false) (row_count c) → Marked c m
 unfolding target_marks is_target

@@ -38,6 +38,7 @@ fn is_foreign(
 }
 
 // Marks each instruction that some instruction of the code jumps to, beside those that are marked already.
+#[tactic(auto, using(crate::proofs::Laws::marking))]
 fn mark_targets(code: &[u8], marks: &mut [bool])
     ensures { marks.new ≡ target_marks code.now marks.old (row_count code.now) }
 {
@@ -119,27 +120,12 @@ pub fn named_number(opcode: u8, b: u16) -> usize
     })
 }
 
-// The type that an instruction names, and the procedure.
+// The type that an instruction names.
 #[tactic(auto, unfolding(crate::specs::Operands::named_type, declarations::specs::Program::type_in))]
 fn named_type(index: &Index, row: Row) -> TypeEntry
     ensures { result ≡ named_type index.now row }
 {
-    index
-        .type_entries
-        .get(named_number(row.a, row.b))
-        .copied()
-        .unwrap_or(TypeEntry::NONE)
-}
-
-#[tactic(auto, unfolding(declarations::specs::Program::procedure_in))]
-fn named_procedure(index: &Index, row: Row) -> ProcedureEntry
-    ensures { result ≡ procedure_in index.now row.b }
-{
-    index
-        .procedure_entries
-        .get(row.b as usize)
-        .copied()
-        .unwrap_or(ProcedureEntry::NONE)
+    declarations::type_in(index, named_number(row.a, row.b))
 }
 
 // The instructions of procedure `own`.
@@ -158,7 +144,7 @@ fn judge_code(
     for i in 0..n {
         let row = table::row_at(code.rows, i);
         let named = named_type(index, row);
-        let callee = named_procedure(index, row);
+        let callee = declarations::procedure_in(index, row.b as usize);
         let last = code.is_last(row.a, i);
         stack = stack.step(&mut kinds, table, row, own, named, callee);
         if let Some(reason) = stack.fault_after(last, is_foreign(table, row, own, named, callee)) {
@@ -189,6 +175,7 @@ fn judge_procedure(
 }
 
 // The operands pass over a table with a given index.
+#[tactic(auto, using(declarations::proofs::Laws::pass_start), unfolding(crate::specs::Operands::operands_with, declarations::specs::Program::code_of))]
 pub fn operands_with(table: &[u8], index: Index) -> Result<usize, Refusal>
     ensures { verdict_of result ≡ operands_with index table.now }
 {

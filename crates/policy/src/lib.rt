@@ -170,11 +170,7 @@ fn judge_code(
     for i in 0..n {
         let row = table::row_at(code, i);
         if row.a == format::CALL {
-            let callee = index
-                .procedure_entries
-                .get(usize::from(row.b))
-                .copied()
-                .unwrap_or(ProcedureEntry::NONE);
+            let callee = declarations::procedure_in(&index, row.b as usize);
             if !may_call(grid, own.owner, callee.owner) {
                 return Err(Reason::ForbiddenCall.at(usize::from(own.code) + i));
             }

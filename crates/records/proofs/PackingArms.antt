@@ -16,6 +16,7 @@ use Rattle.semantics.proofs.Changes.{clash}
 use Rattle.state.specs.declared.Operand.{Operand}
 use Rattle.state.specs.declared.Operand.TheVariants.{Empty, Number, Record, Refer}
 use Rattle.state.specs.declared.frames.State.{State}
+use Rattle.state.specs.declared.stops.Stop.TheVariants.{TooManyRecords, Broken}
 use Rattle.state.specs.code.Coding.{is_record, second_of, third_of}
 use Rattle.state.specs.code.Layout.{operand_cell, local_cell, suspended_cell, room_cell}
 use Rattle.state.specs.code.Cells.{moved}
@@ -216,7 +217,7 @@ module _ (cs : List Operand) (s : State) (st : Stands cs s) where
       let f : b % 256 ≡ b = omega arith in
       rw (e, f, free_first cs s.free st.tidy.free_low st.tidy.in_use) (go (dec_lt free 128))
     where
-      go : Dec (free < 128) → outcome_of n (cond (leb 128 free) (ends cs s too_many_records) (packed_in cs s k b free))
+      go : Dec (free < 128) → outcome_of n (cond (leb 128 free) (ends cs s TooManyRecords) (packed_in cs s k b free))
           ≡ cond (ltb free 128) (mnext (mstate (mframe s.serial s.procedure (s.at + 1) (Record s.records free b ∷ drop k (operands_in cs s)) (locals_in cs s)) (below_in cs s.depth) (set (rooms_in cs) free (some (mroom s.records b (topmost k (operands_in cs s))))) (s.records + 1) (entries_in cs s.entries) s.frames)) (mstopped too_many_records)
       go (yes l) = rw (lt-leb 128 free l, lt-ltb free 128 l) (packed-is cs s st k b free enough few l refl room known n)
       go (no l) = rw (le-leb 128 free (omega arith), le-ltb free 128 (omega arith))
@@ -224,9 +225,9 @@ module _ (cs : List Operand) (s : State) (st : Stands cs s) where
   pub pack-kept : (k b : ℕ) → k ≤ s.height → k ≤ 8 → s.height - k < 16 → s.records < 4294967295 → Kept cs s (pack_of cs s k b)
   pack-kept k b enough few room known = let e : k % 256 ≡ k = omega arith in rw e (go (dec_lt free 128))
     where
-      go : Dec (free < 128) → Kept cs s (cond (leb 128 free) (ends cs s too_many_records) (packed_in cs s k (b % 256) free))
+      go : Dec (free < 128) → Kept cs s (cond (leb 128 free) (ends cs s TooManyRecords) (packed_in cs s k (b % 256) free))
       go (yes l) = rw (lt-leb 128 free l) (packed-kept cs s st k (b % 256) free enough few l refl room known)
-      go (no l) = rw (le-leb 128 free (omega arith)) (ends-kept cs s too_many_records)
+      go (no l) = rw (le-leb 128 free (omega arith)) (ends-kept cs s _)
 
   -- Unpack, where there is room for the fields of the record on top
   abbrev pub Room : Type 0
@@ -240,7 +241,7 @@ module _ (cs : List Operand) (s : State) (st : Stands cs s) where
       with_fields m xs = mnext (mstate (mframe s.serial s.procedure (s.at + 1) (back_to xs (drop 1 (operands_in cs s))) (locals_in cs s)) (below_in cs s.depth) (set (rooms_in cs) m none) s.records (entries_in cs s.entries) s.frames)
 
       from : (c m y : ℕ) → top_at cs s 0 ≡ Record c m y → (t : Bool) → is_live (head_in cs m) c ≡ t
-          → outcome_of k (cond t (unpacked_at cs s m (second_of (head_in cs m))) (ends cs s broken)) ≡ fields_from (cond t (some (mroom c (third_of (head_in cs m)) (up_from cs (room_cell m + 1) (second_of (head_in cs m))))) none) (with_fields m)
+          → outcome_of k (cond t (unpacked_at cs s m (second_of (head_in cs m))) (ends cs s Broken)) ≡ fields_from (cond t (some (mroom c (third_of (head_in cs m)) (up_from cs (room_cell m + 1) (second_of (head_in cs m))))) none) (with_fields m)
       from c m y e true l = unpacked-is cs s st c m l (room c m y e l) k
       from c m y e false l = refl
 
@@ -253,12 +254,12 @@ module _ (cs : List Operand) (s : State) (st : Stands cs s) where
   pub unpack-kept : Room → Kept cs s (unpack_of cs s)
   unpack-kept room = go (top_at cs s 0) refl
     where
-      from : (c m y : ℕ) → top_at cs s 0 ≡ Record c m y → (t : Bool) → is_live (head_in cs m) c ≡ t → Kept cs s (cond t (unpacked_at cs s m (second_of (head_in cs m))) (ends cs s broken))
+      from : (c m y : ℕ) → top_at cs s 0 ≡ Record c m y → (t : Bool) → is_live (head_in cs m) c ≡ t → Kept cs s (cond t (unpacked_at cs s m (second_of (head_in cs m))) (ends cs s Broken))
       from c m y e true l = unpacked-kept cs s st c m l (room c m y e l)
-      from c m y e false l = ends-kept cs s broken
+      from c m y e false l = ends-kept cs s _
 
       go : (x : Operand) → top_at cs s 0 ≡ x → Kept cs s (unpacked_top cs s x)
-      go Empty e = ends-kept cs s broken
-      go (Number v) e = ends-kept cs s broken
+      go Empty e = ends-kept cs s _
+      go (Number v) e = ends-kept cs s _
       go (Record c m y) e = from c m y e (is_live (head_in cs m) c) refl
-      go (Refer r) e = ends-kept cs s broken
+      go (Refer r) e = ends-kept cs s _

@@ -5,7 +5,8 @@ ghost use Rattle.frame.specs.code.Turning.{after};
 ghost use Rattle.records.specs.code.Packing.{packed_state, packed_in, pack_of, unpacked_state, unpacked_from, unpack_of};
 
 use state::frames::State;
-use state::{Operand, rooms, stops};
+use state::stops::Stop;
+use state::{Operand, rooms};
 use table::index::TypeEntry;
 
 // The state after a record was made in room r.
@@ -13,13 +14,9 @@ fn packed(mut s: State, r: u8) -> State
     ensures { result ≡ packed_state s r }
 {
     s.records = state::frames::next_serial(s.records);
-    if 255 <= r {
-        return s;
-    }
-    s.free = r + 1;
-    if s.rooms <= r {
-        s.rooms = r + 1;
-        return s;
+    if r < 255 {
+        s.free = r + 1;
+        s.rooms = s.rooms.max(r + 1);
     }
     s
 }
@@ -50,10 +47,9 @@ fn pack_in(s: State, cells: &mut [u64], k: u8, y: u8, r: u8) -> State
 pub fn pack(s: State, cells: &mut [u64], named: TypeEntry, b: u16) -> State
     ensures { after result (cells_of cells.new) ≡ pack_of (cells_of cells.old) s (named.end - (named.row + 1)) b }
 {
-    let r = rooms::free_room(cells, s.free);
-    if 128 <= r {
-        return s.stopped(stops::TOO_MANY_RECORDS);
-    }
+    let Some(r) = rooms::free_room(cells, s.free) else {
+        return s.stopped(Stop::TooManyRecords);
+    };
     pack_in(
         s,
         cells,
@@ -67,9 +63,7 @@ pub fn pack(s: State, cells: &mut [u64], named: TypeEntry, b: u16) -> State
 fn unpacked(mut s: State, m: u8) -> State
     ensures { result ≡ unpacked_state s m }
 {
-    if m < s.free {
-        s.free = m;
-    }
+    s.free = s.free.min(m);
     s
 }
 
@@ -78,7 +72,7 @@ fn unpack_from(s: State, cells: &mut [u64], c: u32, m: u8) -> State
     ensures { after result (cells_of cells.new) ≡ unpacked_from (cells_of cells.old) s c m }
 {
     if !rooms::is_live(cells, c, m) {
-        return s.stopped(stops::BROKEN);
+        return s.stopped(Stop::Broken);
     }
     let o = rooms::room_cell(m);
     let k = state::second_at(cells, o as usize);
@@ -91,11 +85,8 @@ fn unpack_from(s: State, cells: &mut [u64], c: u32, m: u8) -> State
 pub fn unpack(s: State, cells: &mut [u64]) -> State
     ensures { after result (cells_of cells.new) ≡ unpack_of (cells_of cells.old) s }
 {
-    let top = s.top(cells, 0);
-    match top {
-        Operand::Empty => s.stopped(stops::BROKEN),
-        Operand::Number(_) => s.stopped(stops::BROKEN),
+    match s.top(cells, 0) {
+        Operand::Empty | Operand::Number(_) | Operand::Refer(_) => s.stopped(Stop::Broken),
         Operand::Record(c, m, _) => unpack_from(s, cells, c, m),
-        Operand::Refer(_) => s.stopped(stops::BROKEN),
     }
 }

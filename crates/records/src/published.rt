@@ -1,14 +1,15 @@
 // MoveTo, MoveFrom, BorrowGlobal and Exists.
-ghost use Rattle.std.specs.Prelude.{◌≡◌, ltb};
-ghost use Rattle.arithmetic.specs.Arithmetic.{truth};
+ghost use Rattle.std.specs.Prelude.{◌≡◌};
 ghost use Rattle.state.specs.code.Coding.{value_of, number_of};
 ghost use Rattle.state.specs.code.Cells.{cells_of};
 ghost use Rattle.state.specs.code.Frames.{top_at};
+ghost use Rattle.state.specs.code.Layout.{place_below};
 ghost use Rattle.frame.specs.code.Turning.{after};
-ghost use Rattle.records.specs.code.Published.{with_entries, found, record_at, reference_at, published_as, move_to_of, taken_out, move_from_of, global_at, global_of, exists_of};
+ghost use Rattle.records.specs.code.Published.{with_entries, found, record_at, reference_at, published_as, move_to_of, move_from_of, global_of, exists_of};
 
 use state::frames::State;
-use state::{Operand, entries, stops};
+use state::stops::Stop;
+use state::{Operand, entries};
 
 // The state with n entries in the store.
 fn with_entries(mut s: State, n: u8) -> State
@@ -18,9 +19,9 @@ fn with_entries(mut s: State, n: u8) -> State
     s
 }
 
-// The entry under type y and the address on top; as many as there are entries where there is none.
-fn found(s: State, cells: &[u64], y: u8) -> u8
-    ensures { result ≡ found (cells_of cells.now) s y (number_of (top_at (cells_of cells.now) s 0)) }
+// The entry under type y and the address on top.
+fn found(s: State, cells: &[u64], y: u8) -> Option<u8>
+    ensures { result ≡ place_below s.entries (found (cells_of cells.now) s y (number_of (top_at (cells_of cells.now) s 0))) }
 {
     entries::find(cells, s.entries, y, s.number(cells, 0))
 }
@@ -38,11 +39,11 @@ fn publish(s: State, cells: &mut [u64], y: u8, c: u32, m: u8) -> State
     ensures { after result (cells_of cells.new) ≡ published_as (cells_of cells.old) s y (number_of (top_at (cells_of cells.old) s 0)) c m }
 {
     let n = s.entries;
-    if found(s, cells, y) < n {
-        return s.stopped(stops::KEY_TAKEN);
+    if found(s, cells, y).is_some() {
+        return s.stopped(Stop::KeyTaken);
     }
     if entries::ENTRIES <= n {
-        return s.stopped(stops::TOO_MANY_ENTRIES);
+        return s.stopped(Stop::TooManyEntries);
     }
     entries::put_entry(cells, n, y, s.number(cells, 0), c, m);
     with_entries(s, n + 1).drop_top(2).next()
@@ -53,28 +54,12 @@ pub fn move_to(s: State, cells: &mut [u64], b: u16) -> State
     ensures { after result (cells_of cells.new) ≡ move_to_of (cells_of cells.old) s b }
 {
     if !s.has_number(cells, 0) {
-        return s.stopped(stops::BROKEN);
+        return s.stopped(Stop::Broken);
     }
-    let x = s.top(cells, 1);
-    match x {
-        Operand::Empty => s.stopped(stops::BROKEN),
-        Operand::Number(_) => s.stopped(stops::BROKEN),
+    match s.top(cells, 1) {
+        Operand::Empty | Operand::Number(_) | Operand::Refer(_) => s.stopped(Stop::Broken),
         Operand::Record(c, m, _) => publish(s, cells, (b % 256) as u8, c, m),
-        Operand::Refer(_) => s.stopped(stops::BROKEN),
     }
-}
-
-// Entry i withdrawn, of type y.
-fn withdraw(s: State, cells: &mut [u64], y: u8, i: u8) -> State
-    ensures { after result (cells_of cells.new) ≡ taken_out (cells_of cells.old) s y i }
-{
-    let n = s.entries;
-    if n <= i {
-        return s.stopped(stops::NO_SUCH_KEY);
-    }
-    let w = entry_word(cells, i, y);
-    entries::remove_entry(cells, n, i);
-    frame::operations::settle(with_entries(s, n - 1), cells, 1, state::RECORD, w)
 }
 
 // MoveFrom.
@@ -82,20 +67,16 @@ pub fn move_from(s: State, cells: &mut [u64], b: u16) -> State
     ensures { after result (cells_of cells.new) ≡ move_from_of (cells_of cells.old) s b }
 {
     if !s.has_number(cells, 0) {
-        return s.stopped(stops::BROKEN);
+        return s.stopped(Stop::Broken);
     }
     let y = (b % 256) as u8;
-    withdraw(s, cells, y, found(s, cells, y))
-}
-
-// A reference to the record of entry i, of type y.
-fn borrow_entry(s: State, cells: &mut [u64], y: u8, i: u8) -> State
-    ensures { after result (cells_of cells.new) ≡ global_at (cells_of cells.old) s y i }
-{
-    if s.entries <= i {
-        return s.stopped(stops::NO_SUCH_KEY);
-    }
-    frame::operations::settle(s, cells, 1, state::TO_RECORD, entry_word(cells, i, y))
+    let n = s.entries;
+    let Some(i) = found(s, cells, y) else {
+        return s.stopped(Stop::NoSuchKey);
+    };
+    let w = entry_word(cells, i, y);
+    entries::remove_entry(cells, n, i);
+    frame::operations::settle(with_entries(s, n - 1), cells, 1, state::RECORD, w)
 }
 
 // BorrowGlobal.
@@ -103,26 +84,23 @@ pub fn borrow_global(s: State, cells: &mut [u64], b: u16) -> State
     ensures { after result (cells_of cells.new) ≡ global_of (cells_of cells.old) s b }
 {
     if !s.has_number(cells, 0) {
-        return s.stopped(stops::BROKEN);
+        return s.stopped(Stop::Broken);
     }
     let y = (b % 256) as u8;
-    borrow_entry(s, cells, y, found(s, cells, y))
-}
-
-// 1 where the first number is below the second, else 0.
-fn below(i: u8, n: u8) -> u64
-    ensures { result ≡ truth (ltb i n) }
-{
-    if i < n { 1 } else { 0 }
+    let Some(i) = found(s, cells, y) else {
+        return s.stopped(Stop::NoSuchKey);
+    };
+    frame::operations::settle(s, cells, 1, state::TO_RECORD, entry_word(cells, i, y))
 }
 
 // Exists.
+#[tactic(auto, using(state::proofs::Searches::some_place), unfolding(state::specs::code::Coding::value_of, state::specs::code::Coding::values))]
 pub fn exists(s: State, cells: &mut [u64], b: u16) -> State
     ensures { after result (cells_of cells.new) ≡ exists_of (cells_of cells.old) s b }
 {
     if !s.has_number(cells, 0) {
-        return s.stopped(stops::BROKEN);
+        return s.stopped(Stop::Broken);
     }
-    let r = below(found(s, cells, (b % 256) as u8), s.entries);
+    let r = u64::from(found(s, cells, (b % 256) as u8).is_some());
     frame::operations::settle(s, cells, 1, state::NUMBER, r)
 }

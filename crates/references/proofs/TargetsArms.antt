@@ -5,6 +5,7 @@ use mathlib.Core.Bool.{Bool, true, false, cond}
 use mathlib.Core.Logic.{◌⊎◌, inl, inr}
 use mathlib.Core.List.{List, ◌∷◌}
 use mathlib.Core.Option.{none, some}
+use Rattle.std.specs.Prelude.{Option, Some, None}
 use native.Mathlib.Omega.{arith}
 use native.Mathlib.Decide.{dec_lt, ℕ_discrete}
 use borrow.Author.Tests.{lt-ltb, le-ltb, eq-eqb, ne_eqb}
@@ -19,18 +20,17 @@ use Rattle.state.specs.declared.Operand.{Operand}
 use Rattle.state.specs.declared.Operand.TheVariants.{Empty, Number, Record, Refer}
 use Rattle.state.specs.declared.frames.State.{State}
 use Rattle.state.specs.code.Coding.{number_of, first_of, second_of, third_of}
-use Rattle.state.specs.code.Layout.{operand_cell, local_cell, suspended_cell, room_cell, no_cell}
+use Rattle.state.specs.code.Cells.{held_at}
+use Rattle.state.specs.code.Layout.{operand_cell, local_cell, suspended_cell, room_cell}
 use Rattle.state.specs.code.Frames.{top_at, dropped, gone_on}
 use Rattle.state.specs.code.Rooms.{is_live, field_cell}
 use Rattle.machine.specs.code.Machine.{mbroken, MFrame, mframe, mroom, mstate, MOutcome, mnext, MTarget, m_number, m_record, m_stale, m_wrong, held, room_of, local_at, put_at, leads, in_operand, field_in, number_in as Machine·number_in, in_room as Machine·in_room, as_number, as_reference, number_from, record_from, field_of, write_at, write_room, with_frames, doings}
 use Rattle.machine.specs.code.Views.{up_from, down_from, operands_in, locals_in, below_in, rooms_in, entries_in, Same}
 use Rattle.machine.proofs.Views.{length-below, below-same, rooms_same, entries-same, down_same, up_same, set_same, up_set, top-is, second_is, drop-is}
 use Rattle.machine.proofs.Memory.{head_in, up_held, head_past, room_of_lem, field_put}
-use Rattle.references.specs.declared.targets.Target.{Target}
-use Rattle.references.specs.declared.targets.Target.TheVariants.{Number as ToNumber, Record as ToRecord, Stale, Impossible}
 use Rattle.frame.specs.code.Turning.{Turning, after, broken}
 use Rattle.frame.specs.code.Operations.{with_number}
-use Rattle.references.specs.code.Targets.{local_of, local_in, in_room, in_local, held_in, target_of, target_by, target_top, read_at, read_of, borrowed_as, borrowed_in, borrow_field_of, written_at, write_of}
+use Rattle.references.specs.code.Targets.{Target, ToNumber, ToRecord, Stale, Impossible, local_of, local_in, in_room, in_cell, in_local, held_in, in_place, target_of, target_by, target_top, read_at, read_of, borrowed_as, borrowed_in, borrow_field_of, written_at, write_of}
 use Rattle.frame.proofs.Meaning.{outcome_of, doing, Stands, Kept}
 use Rattle.frame.proofs.Settles.{kept, next-is, settle_is, settle-kept, ends-kept}
 
@@ -47,10 +47,10 @@ module _ (cs : List Operand) (s : State) where
   number_is k (Refer r) f g h = refl
 
   pub number-kept : (x : Operand) (f : ℕ → Turning) → ((n : ℕ) → Kept cs s (f n)) → Kept cs s (with_number cs s x f)
-  number-kept Empty f h = ends-kept cs s broken
+  number-kept Empty f h = ends-kept cs s _
   number-kept (Number n) f h = h n
-  number-kept (Record c m y) f h = ends-kept cs s broken
-  number-kept (Refer r) f h = ends-kept cs s broken
+  number-kept (Record c m y) f h = ends-kept cs s _
+  number-kept (Refer r) f h = ends-kept cs s _
 
   reference_is : (k : ℕ) (x : Operand) (f : Target → Turning) (g : Reference → MOutcome) → outcome_of k (f Impossible) ≡ mbroken → ((r : Reference) → outcome_of k (f (target_of cs s r)) ≡ g r) → outcome_of k (f (target_by cs s x)) ≡ as_reference x g
   reference_is k Empty f g i h = i
@@ -78,19 +78,16 @@ data NumberCell (cs : List Operand) (s : State) : Reference → ℕ → Type 0 w
   field : {c m y j o : ℕ} → j < second_of (head_in cs m) → o ≡ room_cell m + 1 + j → NumberCell cs s (Field c m y j) o
 
 module _ (cs : List Operand) (s : State) (st : Stands cs s) where
-  no_cell_lem : get_or cs no_cell Empty ≡ Empty
-  no_cell_lem = get_or-eq_default cs Empty {n = no_cell} (omega (arith, st.whole))
-
   -- a local of the frame at depth d; of those suspended; of all frames
-  local-held : (serial f count d l : ℕ) → get_or cs (local_of serial f count d l) Empty ≡ cond (eqb serial f) (held (nth (up_from cs (local_cell d) count) l)) Empty
+  local-held : (serial f count d l : ℕ) → held_at cs (local_of serial f count d l) ≡ cond (eqb serial f) (held (nth (up_from cs (local_cell d) count) l)) Empty
   local-held serial f count d l = rw (up_held cs (local_cell d) count l) (go (eqb serial f) (ltb l count))
     where
-      go : (p q : Bool) → get_or cs (cond p (cond q (local_cell d + l) no_cell) no_cell) Empty ≡ cond p (cond q (get_or cs (local_cell d + l) Empty) Empty) Empty
+      go : (p q : Bool) → held_at cs (cond p (cond q (Some (local_cell d + l)) None) None) ≡ cond p (cond q (get_or cs (local_cell d + l) Empty) Empty) Empty
       go true true = refl
-      go true false = no_cell_lem
-      go false q = no_cell_lem
+      go true false = refl
+      go false q = refl
 
-  below-held : (n f d l : ℕ) → local_at (below_in cs n) f d l ≡ cond (ltb d n) (get_or cs (local_of (first_of (get_or cs (suspended_cell d) Empty)) f (third_of (get_or cs (suspended_cell d) Empty)) d l) Empty) Empty
+  below-held : (n f d l : ℕ) → local_at (below_in cs n) f d l ≡ cond (ltb d n) (held_at cs (local_of (first_of (get_or cs (suspended_cell d) Empty)) f (third_of (get_or cs (suspended_cell d) Empty)) d l)) Empty
   unfolding below_in
   below-held zero f d l = rw (le-ltb d 0 (omega arith))
   below-held (suc n) f d l = rw (length-below cs n) (go (ℕ_discrete n d) (below-held n f d l))
@@ -98,42 +95,42 @@ module _ (cs : List Operand) (s : State) (st : Stands cs s) where
       x : Operand
       x = get_or cs (suspended_cell d) Empty
 
-      o : ℕ
+      o : Option ℕ
       o = local_of (first_of x) f (third_of x) d l
 
       less : (n ≡ d → ⊥) → Dec (d < n) → ltb d n ≡ ltb d (suc n)
       less e (yes l) = rw (lt-ltb d n l, lt-ltb d (suc n) (omega arith))
       less e (no l) = rw (le-ltb d n (omega arith), le-ltb d (suc n) (omega arith))
 
-      go : Dec (n ≡ d) → local_at (below_in cs n) f d l ≡ cond (ltb d n) (get_or cs o Empty) Empty
-          → cond (eqb n d) (cond (eqb (first_of (get_or cs (suspended_cell n) Empty)) f) (held (nth (up_from cs (local_cell n) (third_of (get_or cs (suspended_cell n) Empty))) l)) Empty) (local_at (below_in cs n) f d l) ≡ cond (ltb d (suc n)) (get_or cs o Empty) Empty
+      go : Dec (n ≡ d) → local_at (below_in cs n) f d l ≡ cond (ltb d n) (held_at cs o) Empty
+          → cond (eqb n d) (cond (eqb (first_of (get_or cs (suspended_cell n) Empty)) f) (held (nth (up_from cs (local_cell n) (third_of (get_or cs (suspended_cell n) Empty))) l)) Empty) (local_at (below_in cs n) f d l) ≡ cond (ltb d (suc n)) (held_at cs o) Empty
       go (yes e) rest = rw (eq-eqb n d e, lt-ltb d (suc n) (omega arith), e) (sym (local-held (first_of x) f (third_of x) d l))
       go (no e) rest = rw (ne_eqb n d e, rest, less e (dec_lt d n))
 
-  frames-held : (at : ℕ) (ops : List Operand) (f d l : ℕ) → local_at (mframe s.serial s.procedure at ops (locals_in cs s) ∷ below_in cs s.depth) f d l ≡ get_or cs (local_in cs s f d l) Empty
+  frames-held : (at : ℕ) (ops : List Operand) (f d l : ℕ) → local_at (mframe s.serial s.procedure at ops (locals_in cs s) ∷ below_in cs s.depth) f d l ≡ held_at cs (local_in cs s f d l)
   frames-held at ops f d l = rw (length-below cs s.depth, below-held s.depth f d l) (go (ℕ_discrete s.depth d))
     where
       x : Operand
       x = get_or cs (suspended_cell d) Empty
 
-      o : ℕ
+      o : Option ℕ
       o = local_of (first_of x) f (third_of x) d l
 
-      under : (t : Bool) → cond t (get_or cs o Empty) Empty ≡ get_or cs (cond t o no_cell) Empty
+      under : (t : Bool) → cond t (held_at cs o) Empty ≡ held_at cs (cond t o None)
       under true = refl
-      under false = sym no_cell_lem
+      under false = refl
 
-      go : Dec (s.depth ≡ d) → cond (eqb s.depth d) (cond (eqb s.serial f) (held (nth (locals_in cs s) l)) Empty) (cond (ltb d s.depth) (get_or cs o Empty) Empty) ≡ get_or cs (local_in cs s f d l) Empty
+      go : Dec (s.depth ≡ d) → cond (eqb s.depth d) (cond (eqb s.serial f) (held (nth (locals_in cs s) l)) Empty) (cond (ltb d s.depth) (held_at cs o) Empty) ≡ held_at cs (local_in cs s f d l)
       go (yes e) = rw (eq-eqb s.depth d e, eq-eqb d s.depth (sym e)) (rw (← e) (sym (local-held s.serial f s.count s.depth l)))
       go (no e) = rw (ne_eqb s.depth d e, ne_eqb d s.depth (λ q. e (sym q))) (under (ltb d s.depth))
 
   -- a field of a room; a room
-  field-held : (m j : ℕ) → held (nth (up_from cs (room_cell m + 1) (second_of (head_in cs m))) j) ≡ get_or cs (field_cell cs m j) Empty
+  field-held : (m j : ℕ) → held (nth (up_from cs (room_cell m + 1) (second_of (head_in cs m))) j) ≡ held_at cs (field_cell cs m j)
   field-held m j = rw (up_held cs (room_cell m + 1) (second_of (head_in cs m)) j) (go (ltb j (second_of (head_in cs m))))
     where
-      go : (p : Bool) → cond p (get_or cs (room_cell m + 1 + j) Empty) Empty ≡ get_or cs (cond p (room_cell m + 1 + j) no_cell) Empty
+      go : (p : Bool) → cond p (get_or cs (room_cell m + 1 + j) Empty) Empty ≡ held_at cs (cond p (Some (room_cell m + 1 + j)) None)
       go true = refl
-      go false = sym no_cell_lem
+      go false = refl
 
   room-leads : (c m : ℕ) → Machine·in_room m (room_of (nth (rooms_in cs) m) c) ≡ meant cs (in_room cs c m)
   room-leads c m = rw (room_of_lem cs st.whole m c) (go (is_live (head_in cs m) c))
@@ -144,23 +141,31 @@ module _ (cs : List Operand) (s : State) (st : Stands cs s) where
 
   -- where a reference leads
   pub leads-is : (at : ℕ) (ops : List Operand) (r : Reference) → leads (mframe s.serial s.procedure at ops (locals_in cs s) ∷ below_in cs s.depth) (rooms_in cs) r ≡ meant cs (target_of cs s r)
-  leads-is at ops (Local f d l k) = rw (frames-held at ops f d l) (go (get_or cs (local_in cs s f d l) Empty) refl)
+  leads-is at ops (Local f d l k) = rw (frames-held at ops f d l) (place (local_in cs s f d l))
     where
-      go : (x : Operand) → get_or cs (local_in cs s f d l) Empty ≡ x → in_operand (rooms_in cs) x ≡ meant cs (in_local cs (local_in cs s f d l) x)
-      go Empty e = refl
-      go (Number n) e = rw e
-      go (Record c m y) e = room-leads c m
-      go (Refer r) e = refl
+      go : (o : ℕ) (x : Operand) → get_or cs o Empty ≡ x → in_operand (rooms_in cs) x ≡ meant cs (in_cell cs o x)
+      go o Empty e = refl
+      go o (Number n) e = rw e
+      go o (Record c m y) e = room-leads c m
+      go o (Refer r) e = refl
+
+      place : (o : Option ℕ) → in_operand (rooms_in cs) (held_at cs o) ≡ meant cs (in_local cs o)
+      place None = refl
+      place (Some o) = go o (get_or cs o Empty) refl
   leads-is at ops (Field c m y j) = rw (room_of_lem cs st.whole m c) (go (is_live (head_in cs m) c))
     where
-      here : (x : Operand) → get_or cs (field_cell cs m j) Empty ≡ x → Machine·number_in x ≡ meant cs (held_in (field_cell cs m j) x)
-      here Empty e = refl
-      here (Number n) e = rw e
-      here (Record a r k) e = refl
-      here (Refer r) e = refl
+      here : (o : ℕ) (x : Operand) → get_or cs o Empty ≡ x → Machine·number_in x ≡ meant cs (held_in o x)
+      here o Empty e = refl
+      here o (Number n) e = rw e
+      here o (Record a r k) e = refl
+      here o (Refer r) e = refl
 
-      go : (p : Bool) → field_in j (cond p (some (mroom c (third_of (head_in cs m)) (up_from cs (room_cell m + 1) (second_of (head_in cs m))))) none) ≡ meant cs (cond p (held_in (field_cell cs m j) (get_or cs (field_cell cs m j) Empty)) Stale)
-      go true = rw (field-held m j) (here (get_or cs (field_cell cs m j) Empty) refl)
+      place : (o : Option ℕ) → Machine·number_in (held_at cs o) ≡ meant cs (in_place cs o)
+      place None = refl
+      place (Some o) = here o (get_or cs o Empty) refl
+
+      go : (p : Bool) → field_in j (cond p (some (mroom c (third_of (head_in cs m)) (up_from cs (room_cell m + 1) (second_of (head_in cs m))))) none) ≡ meant cs (cond p (in_place cs (field_cell cs m j)) Stale)
+      go true = rw (field-held m j) (place (field_cell cs m j))
       go false = refl
   leads-is at ops (Whole c m y) = room-leads c m
 
@@ -180,9 +185,9 @@ module _ (cs : List Operand) (s : State) (st : Stands cs s) where
     where
       to : (t : Target) → Kept cs s (read_at cs s t)
       to (ToNumber o) = settle-kept cs s st 1 _ (omega (arith, st.low))
-      to (ToRecord c m) = ends-kept cs s broken
-      to Stale = ends-kept cs s stale_reference
-      to Impossible = ends-kept cs s broken
+      to (ToRecord c m) = ends-kept cs s _
+      to Stale = ends-kept cs s _
+      to Impossible = ends-kept cs s _
 
   -- BorrowFld
   pub borrow_field_is : (k b d kind others : ℕ) → b / 8 < 256 → outcome_of k (borrow_field_of cs s b) ≡ doing b d kind 1 others cs s 8
@@ -199,7 +204,7 @@ module _ (cs : List Operand) (s : State) (st : Stands cs s) where
 
       to : (t : Target) → outcome_of k (borrowed_in cs s t (b / 8) (b % 8)) ≡ record_from (meant cs t) (λ (a c : ℕ) (xs : List Operand). field_of a c (b / 8) (b % 8) (held (nth xs (b % 8))) (onward cs s 1))
       to (ToNumber o) = refl
-      to (ToRecord c m) = rw (field-held m (b % 8)) (of c m (get_or cs (field_cell cs m (b % 8)) Empty))
+      to (ToRecord c m) = rw (field-held m (b % 8)) (of c m (held_at cs (field_cell cs m (b % 8))))
       to Stale = refl
       to Impossible = refl
 
@@ -207,67 +212,71 @@ module _ (cs : List Operand) (s : State) (st : Stands cs s) where
   borrow_field_kept b = to (target_top cs s)
     where
       of : (c m : ℕ) (x : Operand) → Kept cs s (borrowed_as cs s c m (b / 8 % 256) (b % 8) x)
-      of c m Empty = ends-kept cs s broken
+      of c m Empty = ends-kept cs s _
       of c m (Number n) = settle-kept cs s st 1 _ (omega (arith, st.low))
       of c m (Record a r y) = settle-kept cs s st 1 _ (omega (arith, st.low))
-      of c m (Refer r) = ends-kept cs s broken
+      of c m (Refer r) = ends-kept cs s _
 
       to : (t : Target) → Kept cs s (borrowed_in cs s t (b / 8 % 256) (b % 8))
-      to (ToNumber o) = ends-kept cs s broken
-      to (ToRecord c m) = of c m (get_or cs (field_cell cs m (b % 8)) Empty)
-      to Stale = ends-kept cs s stale_reference
-      to Impossible = ends-kept cs s broken
+      to (ToNumber o) = ends-kept cs s _
+      to (ToRecord c m) = of c m (held_at cs (field_cell cs m (b % 8)))
+      to Stale = ends-kept cs s _
+      to Impossible = ends-kept cs s _
 
   -- WriteRef. The cell of a number to which a reference leads
-  local-cell : (serial f count d l v : ℕ) → get_or cs (local_of serial f count d l) Empty ≡ Number v → (l < count) × (local_of serial f count d l ≡ local_cell d + l)
-  local-cell serial f count d l v e = go (eqb serial f) (dec_lt l count) e
+  local-cell : (serial f count d l o : ℕ) → local_of serial f count d l ≡ Some o → (l < count) × (o ≡ local_cell d + l)
+  local-cell serial f count d l o e = go (eqb serial f) (dec_lt l count) e
     where
-      go : (p : Bool) → Dec (l < count) → get_or cs (cond p (cond (ltb l count) (local_cell d + l) no_cell) no_cell) Empty ≡ Number v → (l < count) × (cond p (cond (ltb l count) (local_cell d + l) no_cell) no_cell ≡ local_cell d + l)
-      go true (yes h) e = (h, rw (lt-ltb l count h))
-      go true (no h) e = let q = rw (le-ltb l count (omega arith)) at e in absurd (clash (cc (q, no_cell_lem)))
-      go false h e = absurd (clash (cc (e, no_cell_lem)))
+      go : (p : Bool) → Dec (l < count) → cond p (cond (ltb l count) (Some (local_cell d + l)) None) None ≡ Some o → (l < count) × (o ≡ local_cell d + l)
+      go true (yes h) e = let q = rw (lt-ltb l count h) at e in (h, cc (q))
+      go true (no h) e = let q = rw (le-ltb l count (omega arith)) at e in absurd (clash (cc (q)))
+      go false h e = absurd (clash (cc (e)))
 
-  local-in : (f d l k v : ℕ) → get_or cs (local_in cs s f d l) Empty ≡ Number v → NumberCell cs s (Local f d l k) (local_in cs s f d l)
-  local-in f d l k v e = go (ℕ_discrete d s.depth) (dec_lt d s.depth)
+  local-in : (f d l k o : ℕ) → local_in cs s f d l ≡ Some o → NumberCell cs s (Local f d l k) o
+  local-in f d l k o e = go (ℕ_discrete d s.depth) (dec_lt d s.depth)
     where
-      go : Dec (d ≡ s.depth) → Dec (d < s.depth) → NumberCell cs s (Local f d l k) (local_in cs s f d l)
-      go (yes p) h =
-          let c = local-cell s.serial f s.count d l v (rw (eq-eqb d s.depth p) at e) in
-          let o : local_in cs s f d l ≡ local_cell d + l = rw (eq-eqb d s.depth p) c.1 in
-          running p c.0 o
+      go : Dec (d ≡ s.depth) → Dec (d < s.depth) → NumberCell cs s (Local f d l k) o
+      go (yes p) h = let c = local-cell s.serial f s.count d l o (rw (eq-eqb d s.depth p) at e) in running p c.0 c.1
       go (no n) (yes p) =
           let x = get_or cs (suspended_cell d) Empty in
-          let c = local-cell (first_of x) f (third_of x) d l v (rw (ne_eqb d s.depth n, lt-ltb d s.depth p) at e) in
-          let o : local_in cs s f d l ≡ local_cell d + l = rw (ne_eqb d s.depth n, lt-ltb d s.depth p) c.1 in
-          suspended p c.0 o
-      go (no n) (no p) = let q = rw (ne_eqb d s.depth n, le-ltb d s.depth (omega arith)) at e in absurd (clash (cc (q, no_cell_lem)))
+          let c = local-cell (first_of x) f (third_of x) d l o (rw (ne_eqb d s.depth n, lt-ltb d s.depth p) at e) in
+          suspended p c.0 c.1
+      go (no n) (no p) = let q = rw (ne_eqb d s.depth n, le-ltb d s.depth (omega arith)) at e in absurd (clash (cc (q)))
 
   no_number : (p : Bool) (c m o : ℕ) → cond p (ToRecord c m) Stale ≡ ToNumber o → ⊥
   no_number true c m o e = clash (cc)
   no_number false c m o e = clash (cc)
 
   number_cell : (r : Reference) (o : ℕ) → target_of cs s r ≡ ToNumber o → NumberCell cs s r o
-  number_cell (Local f d l k) o e = go (get_or cs (local_in cs s f d l) Empty) refl e
+  number_cell (Local f d l k) o e = place (local_in cs s f d l) refl e
     where
-      go : (x : Operand) → get_or cs (local_in cs s f d l) Empty ≡ x → in_local cs (local_in cs s f d l) x ≡ ToNumber o → NumberCell cs s (Local f d l k) o
-      go Empty q e = absurd (clash (cc))
-      go (Number v) q e = let z : local_in cs s f d l ≡ o = cc in rw z at (local-in f d l k v q)
-      go (Record c m y) q e = absurd (no_number (is_live (head_in cs m) c) c m o e)
-      go (Refer r) q e = absurd (clash (cc))
+      go : (n : ℕ) (x : Operand) → in_cell cs n x ≡ ToNumber o → n ≡ o
+      go n Empty e = absurd (clash (cc))
+      go n (Number v) e = cc
+      go n (Record c m y) e = absurd (no_number (is_live (head_in cs m) c) c m o e)
+      go n (Refer r) e = absurd (clash (cc))
+
+      place : (p : Option ℕ) → local_in cs s f d l ≡ p → in_local cs p ≡ ToNumber o → NumberCell cs s (Local f d l k) o
+      place None q e = absurd (clash (cc (e)))
+      place (Some n) q e = let z : n ≡ o = go n (get_or cs n Empty) e in local-in f d l k o (rw z at q)
   number_cell (Field c m y j) o e = live (is_live (head_in cs m) c) e
     where
-      inside : Dec (j < second_of (head_in cs m)) → (v : ℕ) → get_or cs (field_cell cs m j) Empty ≡ Number v → field_cell cs m j ≡ o → NumberCell cs s (Field c m y j) o
-      inside (yes h) v q z = field h (sym z ∙ rw (lt-ltb j (second_of (head_in cs m)) h))
-      inside (no h) v q z = let p = rw (le-ltb j (second_of (head_in cs m)) (omega arith)) at q in absurd (clash (cc (p, no_cell_lem)))
+      inside : Dec (j < second_of (head_in cs m)) → field_cell cs m j ≡ Some o → NumberCell cs s (Field c m y j) o
+      inside (yes h) q = let z = rw (lt-ltb j (second_of (head_in cs m)) h) at q in field h (cc (z))
+      inside (no h) q = let z = rw (le-ltb j (second_of (head_in cs m)) (omega arith)) at q in absurd (clash (cc (z)))
 
-      go : (x : Operand) → get_or cs (field_cell cs m j) Empty ≡ x → held_in (field_cell cs m j) x ≡ ToNumber o → NumberCell cs s (Field c m y j) o
-      go Empty q e = absurd (clash (cc))
-      go (Number v) q e = let z : field_cell cs m j ≡ o = cc in inside (dec_lt j (second_of (head_in cs m))) v q z
-      go (Record a r k) q e = absurd (clash (cc))
-      go (Refer r) q e = absurd (clash (cc))
+      go : (n : ℕ) (x : Operand) → held_in n x ≡ ToNumber o → n ≡ o
+      go n Empty e = absurd (clash (cc))
+      go n (Number v) e = cc
+      go n (Record a r k) e = absurd (clash (cc))
+      go n (Refer r) e = absurd (clash (cc))
 
-      live : (p : Bool) → cond p (held_in (field_cell cs m j) (get_or cs (field_cell cs m j) Empty)) Stale ≡ ToNumber o → NumberCell cs s (Field c m y j) o
-      live true e = go (get_or cs (field_cell cs m j) Empty) refl e
+      place : (p : Option ℕ) → field_cell cs m j ≡ p → in_place cs p ≡ ToNumber o → NumberCell cs s (Field c m y j) o
+      place None q e = absurd (clash (cc (e)))
+      place (Some n) q e = let z : n ≡ o = go n (get_or cs n Empty) e in inside (dec_lt j (second_of (head_in cs m))) (rw z at q)
+
+      live : (p : Bool) → cond p (in_place cs (field_cell cs m j)) Stale ≡ ToNumber o → NumberCell cs s (Field c m y j) o
+      live true e = place (field_cell cs m j) refl e
       live false e = absurd (clash (cc))
   number_cell (Whole c m y) o e = absurd (no_number (is_live (head_in cs m) c) c m o e)
 
@@ -371,7 +380,7 @@ module _ (cs : List Operand) (s : State) (st : Stands cs s) where
       to n r Impossible e = refl
 
   pub write_kept : Kept cs s (write_of cs s)
-  write_kept = number-kept cs s (top_at cs s 1) (written_at cs s (target_top cs s)) (λ n. reference_kept cs s (top_at cs s 0) (λ (t : Target). written_at cs s t n) (ends-kept cs s broken) (λ r. to n r (target_of cs s r) refl))
+  write_kept = number-kept cs s (top_at cs s 1) (written_at cs s (target_top cs s)) (λ n. reference_kept cs s (top_at cs s 0) (λ (t : Target). written_at cs s t n) (ends-kept cs s _) (λ r. to n r (target_of cs s r) refl))
     where
       headless : (r : Reference) (o : ℕ) → NumberCell cs s r o → (i : ℕ) → room_cell i ≡ o → ⊥
       headless r o (running e h q) i z = omega (arith, st.few, st.shallow)
@@ -384,6 +393,6 @@ module _ (cs : List Operand) (s : State) (st : Stands cs s) where
 
       to : (n : ℕ) (r : Reference) (t : Target) → target_of cs s r ≡ t → Kept cs s (written_at cs s t n)
       to n r (ToNumber o) e = kept cs (set cs o (Number n)) s _ (length-set cs o (Number n)) (λ i l. get_or-set_other cs o (room_cell i) (Number n) Empty (headless r o (number_cell r o e) i)) refl refl (omega arith) (omega arith)
-      to n r (ToRecord c m) e = ends-kept cs s broken
-      to n r Stale e = ends-kept cs s stale_reference
-      to n r Impossible e = ends-kept cs s broken
+      to n r (ToRecord c m) e = ends-kept cs s _
+      to n r Stale e = ends-kept cs s _
+      to n r Impossible e = ends-kept cs s _

@@ -1,38 +1,34 @@
 // ReadRef, WriteRef and BorrowFld: where a reference leads, and what is done there.
-ghost use Rattle.std.specs.Prelude.{◌≡◌, get_or};
-ghost use Rattle.state.specs.code.Cells.{cells_of};
+ghost use Rattle.std.specs.Prelude.{◌≡◌};
+ghost use Rattle.state.specs.code.Cells.{cells_of, held_at};
 ghost use Rattle.state.specs.code.Rooms.{field_cell};
-ghost use Rattle.state.specs.declared.Operand.TheVariants.{Empty};
 ghost use Rattle.frame.specs.code.Turning.{after};
-ghost use Rattle.references.specs.code.Targets.{local_of, local_in, in_room, in_local, in_field, target_of, target_top, read_of, written_at, write_of, borrowed_as, borrow_field_of};
+ghost use Rattle.references.specs.code.Targets.{place_of, local_of, local_in, in_room, in_local, in_field, target_of, target_top, read_of, write_of, borrowed_as, borrow_field_of};
 
 use state::frames::State;
-use state::{Operand, Reference, rooms, stops};
+use state::stops::Stop;
+use state::{Operand, Reference, rooms};
 
-// Where a reference leads: to a number in a cell, to the record with this serial number in a room, to nothing now, or to what no reference leads to.
+// Where a reference leads: to a number in a cell, or to the record with this serial number in a room. A reference that leads nowhere is a stop: what
+// it led to is gone, or no reference leads there.
 #[derive(Clone, Copy)]
-pub enum Target {
+pub enum Place {
     Number(u16),
     Record(u32, u8),
-    Stale,
-    Impossible,
 }
 
-// The cell of local l of frame f at depth d, where the frame with this serial number and so many locals is, or none where that is another frame or
-// it has no such local.
-fn local_of(serial: u32, f: u32, count: u8, d: u8, l: u8) -> u16
+// The cell of local l of frame f at depth d, if the frame with this serial number and so many locals is that one and has such a local.
+fn local_of(serial: u32, f: u32, count: u8, d: u8, l: u8) -> Option<u16>
     ensures { result ≡ local_of serial f count d l }
 {
-    if serial == f {
-        if l < count {
-            return 32 * (d as u16) + 16 + (l as u16);
-        }
+    if serial == f && l < count {
+        return Some(32 * (d as u16) + 16 + (l as u16));
     }
-    rooms::NO_CELL
+    None
 }
 
-// The cell of local l of frame f at depth d, or none where that frame has returned or has no such local.
-fn local_cell(s: State, cells: &[u64], f: u32, d: u8, l: u8) -> u16
+// The cell of local l of frame f at depth d, if that frame has not returned and has such a local.
+fn local_cell(s: State, cells: &[u64], f: u32, d: u8, l: u8) -> Option<u16>
     ensures { result ≡ local_in (cells_of cells.now) s f d l }
 {
     if d == s.depth {
@@ -48,46 +44,47 @@ fn local_cell(s: State, cells: &[u64], f: u32, d: u8, l: u8) -> u16
             l,
         );
     }
-    rooms::NO_CELL
+    None
 }
 
-fn in_room(cells: &[u64], s: u32, m: u8) -> Target
-    ensures { result ≡ in_room (cells_of cells.now) s m }
+fn in_room(cells: &[u64], s: u32, m: u8) -> Result<Place, Stop>
+    ensures { result ≡ place_of (in_room (cells_of cells.now) s m) }
 {
     if rooms::is_live(cells, s, m) {
-        return Target::Record(s, m);
+        return Ok(Place::Record(s, m));
     }
-    Target::Stale
+    Err(Stop::StaleReference)
 }
 
-fn in_local(cells: &[u64], o: u16) -> Target
-    ensures { result ≡ in_local (cells_of cells.now) o (get_or (cells_of cells.now) o Empty) }
+fn in_local(cells: &[u64], o: Option<u16>) -> Result<Place, Stop>
+    ensures { result ≡ place_of (in_local (cells_of cells.now) o) }
 {
-    let x = state::cell(cells, o as usize);
-    match x {
-        Operand::Empty => Target::Stale,
-        Operand::Number(_) => Target::Number(o),
+    let Some(o) = o else {
+        return Err(Stop::StaleReference);
+    };
+    match state::cell(cells, o as usize) {
+        Operand::Empty => Err(Stop::StaleReference),
+        Operand::Number(_) => Ok(Place::Number(o)),
         Operand::Record(s, m, _) => in_room(cells, s, m),
-        Operand::Refer(_) => Target::Impossible,
+        Operand::Refer(_) => Err(Stop::Broken),
     }
 }
 
-fn in_field(cells: &[u64], s: u32, m: u8, j: u8) -> Target
-    ensures { result ≡ in_field (cells_of cells.now) s m j }
+fn in_field(cells: &[u64], s: u32, m: u8, j: u8) -> Result<Place, Stop>
+    ensures { result ≡ place_of (in_field (cells_of cells.now) s m j) }
 {
     if !rooms::is_live(cells, s, m) {
-        return Target::Stale;
+        return Err(Stop::StaleReference);
     }
-    let o = rooms::field_cell(cells, m, j);
-    if state::is_number(cells, o as usize) {
-        return Target::Number(o);
+    match rooms::field_cell(cells, m, j) {
+        Some(o) if state::is_number(cells, o as usize) => Ok(Place::Number(o)),
+        _ => Err(Stop::Broken),
     }
-    Target::Impossible
 }
 
 // Where a reference leads.
-fn target_of(s: State, cells: &[u64], r: Reference) -> Target
-    ensures { result ≡ target_of (cells_of cells.now) s r }
+fn target_of(s: State, cells: &[u64], r: Reference) -> Result<Place, Stop>
+    ensures { result ≡ place_of (target_of (cells_of cells.now) s r) }
 {
     match r {
         Reference::Local(f, d, l, _) => in_local(cells, local_cell(s, cells, f, d, l)),
@@ -97,84 +94,73 @@ fn target_of(s: State, cells: &[u64], r: Reference) -> Target
 }
 
 // Where the top operand leads, which is a reference.
-fn target_top(s: State, cells: &[u64]) -> Target
-    ensures { result ≡ target_top (cells_of cells.now) s }
+fn target_top(s: State, cells: &[u64]) -> Result<Place, Stop>
+    ensures { result ≡ place_of (target_top (cells_of cells.now) s) }
 {
-    let top = s.top(cells, 0);
-    match top {
-        Operand::Empty => Target::Impossible,
-        Operand::Number(_) => Target::Impossible,
-        Operand::Record(_, _, _) => Target::Impossible,
+    match s.top(cells, 0) {
+        Operand::Empty | Operand::Number(_) | Operand::Record(_, _, _) => Err(Stop::Broken),
         Operand::Refer(r) => target_of(s, cells, r),
     }
 }
 
 // ReadRef.
+#[tactic(auto, unfolding(state::specs::code::Coding::value_of, state::specs::code::Coding::values))]
 pub fn read_ref(s: State, cells: &mut [u64]) -> State
     ensures { after result (cells_of cells.new) ≡ read_of (cells_of cells.old) s }
 {
-    let x = target_top(s, cells);
-    match x {
-        Target::Number(o) => {
+    match target_top(s, cells) {
+        Ok(Place::Number(o)) => {
             let n = state::number_at(cells, o as usize);
             frame::operations::settle(s, cells, 1, state::NUMBER, n)
         }
-        Target::Record(_, _) => s.stopped(stops::BROKEN),
-        Target::Stale => s.stopped(stops::STALE_REFERENCE),
-        Target::Impossible => s.stopped(stops::BROKEN),
-    }
-}
-
-// Writes a number through a reference that leads to x.
-fn write_at(s: State, cells: &mut [u64], x: Target, n: u64) -> State
-    ensures { after result (cells_of cells.new) ≡ written_at (cells_of cells.old) s x n }
-{
-    match x {
-        Target::Number(o) => {
-            state::put(cells, o as usize, state::NUMBER, n);
-            s.drop_top(2).next()
-        }
-        Target::Record(_, _) => s.stopped(stops::BROKEN),
-        Target::Stale => s.stopped(stops::STALE_REFERENCE),
-        Target::Impossible => s.stopped(stops::BROKEN),
+        Ok(Place::Record(_, _)) => s.stopped(Stop::Broken),
+        Err(stop) => s.stopped(stop),
     }
 }
 
 // WriteRef.
+#[tactic(auto, unfolding(state::specs::code::Coding::value_of, state::specs::code::Coding::values))]
 pub fn write_ref(s: State, cells: &mut [u64]) -> State
     ensures { after result (cells_of cells.new) ≡ write_of (cells_of cells.old) s }
 {
     if !s.has_number(cells, 1) {
-        return s.stopped(stops::BROKEN);
+        return s.stopped(Stop::Broken);
     }
-    write_at(s, cells, target_top(s, cells), s.number(cells, 1))
+    match target_top(s, cells) {
+        Ok(Place::Number(o)) => {
+            state::put(cells, o as usize, state::NUMBER, s.number(cells, 1));
+            s.drop_top(2).next()
+        }
+        Ok(Place::Record(_, _)) => s.stopped(Stop::Broken),
+        Err(stop) => s.stopped(stop),
+    }
 }
 
 // A reference to what field j of the record c of type y in room m holds.
 fn borrow_held(s: State, cells: &mut [u64], c: u32, m: u8, y: u8, j: u8) -> State
-    ensures { after result (cells_of cells.new) ≡ borrowed_as (cells_of cells.old) s c m y j (get_or (cells_of cells.old) (field_cell (cells_of cells.old) m j) Empty) }
+    ensures { after result (cells_of cells.new) ≡ borrowed_as (cells_of cells.old) s c m y j (held_at (cells_of cells.old) (field_cell (cells_of cells.old) m j)) }
 {
-    let o = rooms::field_cell(cells, m, j) as usize;
-    if state::is_number(cells, o) {
+    let Some(o) = rooms::field_cell(cells, m, j) else {
+        return s.stopped(Stop::Broken);
+    };
+    if state::is_number(cells, o as usize) {
         let w = state::field_word(c, m, y, j);
         return frame::operations::settle(s, cells, 1, state::TO_FIELD, w);
     }
-    if state::is_record(cells, o) {
-        let w = state::record_at(cells, o);
+    if state::is_record(cells, o as usize) {
+        let w = state::record_at(cells, o as usize);
         return frame::operations::settle(s, cells, 1, state::TO_RECORD, w);
     }
-    s.stopped(stops::BROKEN)
+    s.stopped(Stop::Broken)
 }
 
 // BorrowFld.
 pub fn borrow_field(s: State, cells: &mut [u64], b: u16) -> State
     ensures { after result (cells_of cells.new) ≡ borrow_field_of (cells_of cells.old) s b }
 {
-    let x = target_top(s, cells);
-    match x {
-        Target::Number(_) => s.stopped(stops::BROKEN),
-        Target::Record(c, m) => borrow_held(s, cells, c, m, (b / 8 % 256) as u8, (b % 8) as u8),
-        Target::Stale => s.stopped(stops::STALE_REFERENCE),
-        Target::Impossible => s.stopped(stops::BROKEN),
+    match target_top(s, cells) {
+        Ok(Place::Number(_)) => s.stopped(Stop::Broken),
+        Ok(Place::Record(c, m)) => borrow_held(s, cells, c, m, (b / 8 % 256) as u8, (b % 8) as u8),
+        Err(stop) => s.stopped(stop),
     }
 }

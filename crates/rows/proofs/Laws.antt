@@ -1,6 +1,6 @@
 -- Laws of the tables by kind. What concerns one byte is computed once over its 256 values.
 use Prim.Native.Nat.{ℕ, zero, suc, ◌<◌, ◌≤◌}
-use mathlib.Core.Path.{◌≡◌, refl, subst, sym, ◌∙◌}
+use mathlib.Core.Path.{◌≡◌, refl, sym, ◌∙◌}
 use mathlib.Core.Bool.{Bool, true, false, cond, not, ◌&&◌, ◌||◌, beq, false≢true, or-true}
 use mathlib.Core.List.{List, [], ◌∷◌}
 use native.Mathlib.Omega.{arith}
@@ -15,7 +15,7 @@ use Rattle.table.specs.Format.{past_sorts, past_opcodes}
 use Rattle.table.specs.declared.Row.{Row}
 use Rattle.rows.specs.declared.Above.{Above}
 use Rattle.rows.specs.declared.Kind.{Kind}
-use Rattle.rows.specs.Rows.{may_follow, limits, owned, uses, use_of, used_with, unused, Use, count_below, below_row, count_of, row_fault, too_many}
+use Rattle.rows.specs.Rows.{may_follow, limits, uses, use_of, used_with, unused, Use, count_of, row_fault, too_many}
 use Rattle.rows.proofs.Faults.{faultless}
 
 beq_eq : (a b : Bool) → beq a b ≡ true → a ≡ b
@@ -27,18 +27,6 @@ beq_eq false false e = refl
 -- two tests that agree on every number below n
 pub agree : (f g : ℕ → Bool) (n x : ℕ) → every (λ (x : ℕ). beq (f x) (g x)) n ≡ true → x < n → f x ≡ g x
 agree f g n x e h = beq_eq (f x) (g x) (every-at (λ (x : ℕ). beq (f x) (g x)) n x e h)
-
--- a list with an entry for each kind, outside the kinds 1 to 7
-pub no_kind : {A : Type 0} (d a b c e f g h : A) (k : ℕ) → (0 < k → 7 < k) → get_or (d ∷ a ∷ b ∷ c ∷ e ∷ f ∷ g ∷ h ∷ []) k d ≡ d
-no_kind d a b c e f g h zero out = refl
-no_kind d a b c e f g h (suc k) out = get_or-eq_default (d ∷ a ∷ b ∷ c ∷ e ∷ f ∷ g ∷ h ∷ []) d {n = suc k} (out (omega arith))
-
--- a row of no kind changes no count
-pub below_no_kind : (s : Above) (row : Row) → (0 < row.kind → 7 < row.kind) → below_row s row ≡ record s { kind = row.kind }
-unfolding below_row count_below owned member
-below_no_kind s row out =
-    let e : get_or owned row.kind [] ≡ [] = no_kind [] [] (3 ∷ []) [] (5 ∷ 6 ∷ 7 ∷ []) [] [] [] row.kind out in
-    rw (ne_eqb row.kind 1 (λ q. omega arith), ne_eqb row.kind 2 (λ q. omega arith), ne_eqb row.kind 3 (λ q. omega arith), ne_eqb row.kind 4 (λ q. omega arith), ne_eqb row.kind 5 (λ q. omega arith), ne_eqb row.kind 6 (λ q. omega arith), ne_eqb row.kind 7 (λ q. omega arith)) (simp e)
 
 -- the kinds that a row may follow, as the code has them: from, to
 abbrev pub froms : List ℕ
@@ -212,10 +200,6 @@ sorted k a lo hi = go (dec_lt k 6)
     go : Dec (k < 6) → used_with (use_of k).values a (use_of k).with_b ≡ used_with past_sorts a (use_of 5).with_b
     go (yes h) = let e : k ≡ 5 = omega arith in rw e
     go (no h) = let e : k ≡ 6 = omega arith in rw e
-
--- the count of a row's own kind
-pub own-count : (s : Above) (kind k : ℕ) → kind ≡ k → count_of s kind < 65535 → count_of s k < 65535
-own-count s kind k e h = subst (λ (k : ℕ). count_of s k < 65535) e h
 
 limits-low : every (λ (k : ℕ). leb (get_or limits k 0) 256) 8 ≡ true
 unfolding every limits

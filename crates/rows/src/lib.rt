@@ -138,6 +138,7 @@ impl Above {
     }
 
     // What stands above the next row.
+    #[tactic(auto, unfolding(crate::specs::Rows::below_row, crate::specs::Rows::count_below, crate::specs::Rows::owned, crate::specs::Rows::count_of, laws::specs::Lists::member))]
     fn below(mut self, row: Row) -> Self
         requires { count_of self row.kind < 65535 }
         ensures { result ≡ below_row self row }
@@ -172,6 +173,7 @@ impl Above {
     }
 
     // 2: the kind is unknown, or not allowed after the row above.
+    #[tactic(auto, unfolding(crate::specs::Rows::misplaced))]
     fn misplaces(self, row: Row) -> bool
         ensures { result ≡ misplaced self row }
     {
@@ -180,6 +182,7 @@ impl Above {
     }
 
     // 3: one row too many of its kind.
+    #[tactic(auto, unfolding(crate::specs::Rows::too_many))]
     fn overfills(self, row: Row) -> bool
         ensures { result ≡ too_many self row }
     {
@@ -231,6 +234,7 @@ impl Above {
 }
 
 // Whether an opcode has an operand; one that is not allowed counts as having one.
+#[tactic(auto, using(crate::proofs::Laws::operand), unfolding(laws::specs::Lists::member))]
 fn has_operand(opcode: u8) -> bool
     ensures { result ≡ used_with past_opcodes opcode (use_of instruction_kind).with_b }
 {
@@ -246,6 +250,7 @@ fn has_operand(opcode: u8) -> bool
 }
 
 // Whether a value of this sort has a type; a sort that is not allowed counts as having one.
+#[tactic(auto, using(crate::proofs::Laws::typed), unfolding(laws::specs::Lists::member))]
 fn has_type(sort: u8) -> bool
     ensures { result ≡ used_with past_sorts sort (use_of local_kind).with_b }
 {
@@ -263,6 +268,7 @@ fn uses_a(row: Row) -> bool
     0 < kind_of(row).values
 }
 
+#[tactic(auto, using(crate::proofs::Laws::never, crate::proofs::Laws::no_b, crate::proofs::Laws::sorted), unfolding(crate::specs::Rows::uses_b, crate::specs::Rows::uses))]
 fn uses_b(row: Row) -> bool
     ensures { result ≡ uses_b row }
 {
@@ -274,12 +280,14 @@ fn uses_b(row: Row) -> bool
     }
 }
 
+#[tactic(auto, using(crate::proofs::Laws::never, crate::proofs::Laws::no_c), unfolding(crate::specs::Rows::uses_c, crate::specs::Rows::uses))]
 fn uses_c(row: Row) -> bool
     ensures { result ≡ uses_c row }
 {
     matches!(row.kind, format::FIELD | format::LOCAL)
 }
 
+#[tactic(auto, using(crate::proofs::Laws::constant, crate::proofs::Laws::never, crate::proofs::Laws::no_d), unfolding(crate::specs::Rows::uses_d, crate::specs::Rows::uses))]
 fn uses_d(row: Row) -> bool
     ensures { result ≡ uses_d row }
 {

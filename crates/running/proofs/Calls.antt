@@ -22,7 +22,7 @@ use Rattle.state.specs.declared.frames.State.{State}
 use Rattle.state.specs.code.Coding.{number_of, is_record, second_of}
 use Rattle.state.specs.code.Cells.{emptied}
 use Rattle.state.specs.code.Layout.{room_cell, all_cells}
-use Rattle.state.specs.code.Frames.{next_serial}
+use Rattle.state.specs.code.Frames.{stop_of, next_serial}
 use Rattle.machine.specs.code.Machine.{MState, mstate, mnext, mfinished, mstopped, mbroken}
 use Rattle.machine.specs.code.Runs.{MEnd, mend, mrow, mgo}
 use Rattle.machine.specs.code.Lists.{mafter, numbers_of, mbegin, mline}
@@ -245,7 +245,7 @@ module _ (t : List ℕ) (J : Judged t (index_of t)) (cs ks : List Operand) (s : 
     pub base-is : mafter (base_in cs s) e ≡ base_in ds z
     pub line-is : (i : ℕ) → mline t (index_of t) i e ≡ line_of (index_of t) i ds z
     pub lasting : Lasting ds z
-    pub holds_still : same_restored same z.stop ≡ true → Holds ks ds z
+    pub holds_still : same_restored same (stop_of z) ≡ true → Holds ks ds z
     pub records_more : z.records ≤ s.records + budget
     pub frames_more : z.frames ≤ s.frames + 1 + budget
 
@@ -270,11 +270,11 @@ module _ (t : List ℕ) (J : Judged t (index_of t)) (cs ks : List Operand) (s : 
 
   -- it is done
   done-ends : (same : Bool) (m : MState) (xs : List Operand) (v : MState) (ds : List Operand) (z : State) → EndOf t ds z (mend m (mfinished xs v)) → After budget first ds z
-      → (same_restored same z.stop ≡ true → Holds ks ds z) → Ending same (mend m (mfinished xs v)) ds z
+      → (same_restored same (stop_of z) ≡ true → Holds ks ds z) → Ending same (mend m (mfinished xs v)) ds z
   unfolding line_of end_line
   done-ends same m xs (mstate f fs rooms recs es n) ds z (h, r, e) b k = record {
     base-is = e;
-    line-is = λ i. rw (eq-eqb z.stop done h, le-leb (result_count z) z.height r.there) (done-line i (mrow t (index_of t) m) _ (result_count z) xs _ (results_are xs ds z r));
+    line-is = λ i. rw (eq-eqb (stop_of z) done h, le-leb (result_count z) z.height r.there) (done-line i (mrow t (index_of t) m) _ (result_count z) xs _ (results_are xs ds z r));
     lasting = record { whole = b.whole; tidy = b.tidy; rooms_low = b.rooms_low; stored = b.stored };
     holds_still = k;
     records_more = b.records_more;
@@ -282,12 +282,12 @@ module _ (t : List ℕ) (J : Judged t (index_of t)) (cs ks : List Operand) (s : 
   }
 
   -- it stopped in state z, and what lasts is in the cells `es` and the state w
-  stop_ends : (same : Bool) (m : MState) (k : ℕ) (ds es : List Operand) (z w : State) → EndOf t ds z (mend m (mstopped k)) → After budget first ds z → (w.stop ≡ z.stop) × (w.procedure ≡ z.procedure) × (w.at ≡ z.at) × (w.records ≡ z.records) × (w.frames ≡ z.frames)
+  stop_ends : (same : Bool) (m : MState) (k : ℕ) (ds es : List Operand) (z w : State) → EndOf t ds z (mend m (mstopped k)) → After budget first ds z → (stop_of w ≡ (stop_of z)) × (w.procedure ≡ z.procedure) × (w.at ≡ z.at) × (w.records ≡ z.records) × (w.frames ≡ z.frames)
       → rooms_in es ≡ rooms_in cs → entries_in es w.entries ≡ entries_in cs s.entries → Lasting es w → Holds ks es w → Ending same (mend m (mstopped k)) es w
   unfolding line_of end_line
   stop_ends same m k ds es z w (h, no-done, no-broken, here) b (ws, wp, wa, wr, wf) rooms entries lasting holds = record {
     base-is = subst (λ (v : MState). mafter (base_in cs s) (mend v (mstopped k)) ≡ base_in es w) (sym here) (rw (rooms, entries, wr, wf));
-    line-is = λ i. rw (ws, wp, wa, ne_eqb z.stop done (λ e. no-done (sym h ∙ e)), ne_eqb z.stop broken (λ e. no-broken (sym h ∙ e)), h, here);
+    line-is = λ i. rw (ws, wp, wa, ne_eqb (stop_of z) done (λ e. no-done (sym h ∙ e)), ne_eqb (stop_of z) broken (λ e. no-broken (sym h ∙ e)), h, here);
     lasting = lasting;
     holds_still = λ e. holds;
     records_more = omega (arith, b.records_more, wr);
@@ -297,11 +297,11 @@ module _ (t : List ℕ) (J : Judged t (index_of t)) (cs ks : List Operand) (s : 
   ending : (same : Bool) (e : MEnd) (turn : Turning) → (same ≡ true → Untouched cells first turn) → Ends t budget first turn e → Ended same e (restored_to ks first same turn)
   ending true (mend m (mfinished xs v)) (after z ds) u (h, b) = done-ends true m xs v ds z h b (λ e. holds-left ds z (u refl))
   ending false (mend m (mfinished xs (mstate f fs rooms recs es n))) (after z ds) u (h, b) =
-      rw (eq-eqb z.stop done h.0) (done-ends false m xs (mstate f fs rooms recs es n) ds z h b (rw (eq-eqb z.stop done h.0) (λ e. absurd (true≢false (sym e)))))
+      rw (eq-eqb (stop_of z) done h.0) (done-ends false m xs (mstate f fs rooms recs es n) ds z h b (rw (eq-eqb (stop_of z) done h.0) (λ e. absurd (true≢false (sym e)))))
   ending true (mend m (mstopped k)) (after z ds) u (h, b) =
       stop_ends true m k ds ds z z h b (refl, refl, refl, refl, refl) (rooms_left ds z (u refl)) (entries-left ds z (u refl)) (record { whole = b.whole; tidy = b.tidy; rooms_low = b.rooms_low; stored = b.stored }) (holds-left ds z (u refl))
   ending false (mend m (mstopped k)) (after z ds) u (h, b) =
-      rw (ne_eqb z.stop done (λ e. h.1 (sym h.0 ∙ e)))
+      rw (ne_eqb (stop_of z) done (λ e. h.1 (sym h.0 ∙ e)))
       (stop_ends false m k ds (restored_in ds ks z first) z (restored z first) h b (refl, refl, refl, refl, refl) (rooms_again ds z b) (entries-again ds z b) (lasting_again ds z b) (holds-again ds z b))
   ending same (mend m (mnext v)) (after z ds) u (h, b) = absurd h
   ending same (mend m mbroken) (after z ds) u (h, b) = absurd h

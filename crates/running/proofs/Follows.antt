@@ -21,6 +21,7 @@ use Rattle.semantics.proofs.Ends.{calls_in-rows}
 use Rattle.state.specs.declared.Operand.{Operand}
 use Rattle.state.specs.declared.Operand.TheVariants.{Empty}
 use Rattle.state.specs.declared.frames.State.{State}
+use Rattle.state.specs.code.Frames.{stop_of}
 use Rattle.state.specs.code.Layout.{room_cell, all_cells}
 use Rattle.machine.specs.code.Machine.{MRoom}
 use Rattle.machine.specs.code.Runs.{MEnd, mgo}
@@ -75,10 +76,10 @@ module _ (t : List ℕ) (J : Judged t (index_of t)) where
       go : (turn : Turning) → Ended t J cs kept s kept_whole holds b.lasting q budget args c b.between (omega (arith, b.spare.0)) (omega (arith, b.spare.1)) still ended turn
           → ((same' : Bool) (ds ls : List Operand) (z : State) → All (GoodCall t (index_of t)) calls → Before same' ds ls z (length calls)
           → text_from t (index_of t) (i + 1) calls same' ds ls z ≡ mlines t (index_of t) (i + 1) calls (base_in ds z) ++ mstore_lines (mlast t (index_of t) calls (base_in ds z)))
-          → on_turn turn (λ (ds : List Operand) (z : State). line_of (index_of t) i ds z ++ text_from t (index_of t) (i + 1) calls (same_restored still z.stop) ds kept z)
+          → on_turn turn (λ (ds : List Operand) (z : State). line_of (index_of t) i ds z ++ text_from t (index_of t) (i + 1) calls (same_restored still (stop_of z)) ds kept z)
           ≡ (mline t (index_of t) i ended ++ mlines t (index_of t) (i + 1) calls (mafter (base_in cs s) ended)) ++ mstore_lines (mlast t (index_of t) calls (mafter (base_in cs s) ended))
       go (after z ds) e rest =
-          let later = rest (same_restored still z.stop) ds kept z g (record {
+          let later = rest (same_restored still (stop_of z)) ds kept z g (record {
             lasting = e.lasting;
             kept_whole = kept_whole;
             holds = e.holds_still;

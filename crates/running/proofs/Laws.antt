@@ -16,6 +16,7 @@ use Rattle.text.proofs.Placing.{Puts, placed_append}
 use Rattle.state.specs.declared.Operand.{Operand}
 use Rattle.state.specs.declared.Operand.TheVariants.{Empty}
 use Rattle.state.specs.declared.frames.State.{State}
+use Rattle.state.specs.code.Frames.{stop_of}
 use Rattle.state.specs.code.Coding.{values, value_of}
 use Rattle.state.specs.code.Cells.{cells_of}
 use Rattle.machine.specs.code.Lists.{min_order}
@@ -32,7 +33,7 @@ cells_empty (suc n) = let e : 2 * suc n ≡ suc (suc (2 * n)) = omega arith in r
 
 -- the line of a call by its parts
 pub line-is : (ix : Index) (i : ℕ) (cs : List Operand) (s : State) (buffer : List ℕ) (at : ℕ) {own : ProcedureEntry} {count : ℕ} {results u : List ℕ} {r : ℕ} → own ≡ procedure_in ix s.procedure
-    → count ≡ own.code - own.results → results ≡ results_in cs s count → Puts buffer at (end_line i s.stop (own.code + s.at) results count) u r → Puts buffer at (line_of ix i cs s) u r
+    → count ≡ own.code - own.results → results ≡ results_in cs s count → Puts buffer at (end_line i (stop_of s) (own.code + s.at) results count) u r → Puts buffer at (line_of ix i cs s) u r
 unfolding line_of
 line-is ix i cs s buffer at o c e p = rw (← o, ← c, ← e) p
 
@@ -48,7 +49,7 @@ module _ (t : List ℕ) (ix : Index) (l : List ℕ) where
 
   module _ (buffer : List ℕ) (at i k : ℕ) (same : Bool) (cs ks : List Operand) (s : State) where
     pub text_call : {s' : State} {same' : Bool} {ds ls : List Operand} {u : List ℕ} {r : ℕ} → i < row_count l → is_kind l call_row i ≡ true
-        → (after s' ds ≡ call_turn t ix cs (kept_since same ks cs s) s (call_at i)) × (same' ≡ same_restored (same_call t ix cs s (call_at i)) s'.stop) × (ls ≡ kept_since same ks cs s)
+        → (after s' ds ≡ call_turn t ix cs (kept_since same ks cs s) s (call_at i)) × (same' ≡ same_restored (same_call t ix cs s (call_at i)) (stop_of s')) × (ls ≡ kept_since same ks cs s)
         → Puts buffer at (line_of ix k ds s') u r → placed buffer at (text_at i k same cs ks s) ≡ placed u r (text_at (i + 1) (k + 1) same' ds ls s')
     unfolding text_from
     text_call {s'} {same'} {ds} {ls} h q e p =

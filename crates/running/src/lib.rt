@@ -61,7 +61,7 @@ fn put_end(
 fn put_call(text: &mut [u8], at: usize, call: usize, s: State, cells: &[u64], index: Index) -> usize
     ensures { (text.new ≡ (placed text.old at (line_of index call (cells_of cells.now) s)).buffer) × (result ≡ (placed text.old at (line_of index call (cells_of cells.now) s)).end) }
 {
-    let own = calls::procedure_in(index, s.procedure as usize);
+    let own = declarations::procedure_in(&index, s.procedure as usize);
     let count = steps::results_of(own) as usize;
     let results = results_of(s, cells, count);
     put_end(

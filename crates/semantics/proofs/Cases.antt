@@ -26,9 +26,7 @@ use Rattle.helpers.specs.Marks.{result_of}
 use Rattle.helpers.specs.Tables.{is_private, is_helper, marks_in}
 use Rattle.acceptance.specs.Checked.{starts_in, Unmarked, MarkedAs}
 use Rattle.acceptance.specs.Judged.{local_kinds, Judged}
-use Rattle.arithmetic.specs.declared.Calculated.{Calculated}
-use Rattle.arithmetic.specs.declared.Calculated.TheVariants.{Value as Gives, TooLarge, BelowZero, Unknown}
-use Rattle.arithmetic.specs.Arithmetic.{calculation}
+use Rattle.arithmetic.specs.Arithmetic.{Calculated, Value as Gives, TooLarge, BelowZero, Unknown, calculation}
 use Rattle.arithmetic.proofs.Range.{four, word}
 use Rattle.semantics.specs.Machine.{Ref, to_field, to_record, Value, num, obj, refer, as_kind, writable, Cell, gone, here, Entry, Frame, frame, State, state, Outcome, next, stopped, stuck, find_key, put_field, live_count, target, write_frames, write_records}
 use Rattle.semantics.specs.Calls.{all_numbers}

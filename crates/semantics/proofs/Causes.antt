@@ -10,9 +10,7 @@ use Rattle.table.specs.declared.Row.{Row}
 use Rattle.table.specs.declared.index.Index.{Index}
 use Rattle.table.specs.Format.{op_read_ref, op_borrow_fld, op_op}
 use Rattle.declarations.specs.Program.{procedure_in, local_count, local_kind}
-use Rattle.arithmetic.specs.declared.Calculated.{Calculated}
-use Rattle.arithmetic.specs.declared.Calculated.TheVariants.{Value as Gives, TooLarge, BelowZero, Unknown}
-use Rattle.arithmetic.specs.Arithmetic.{past_numbers, calculation}
+use Rattle.arithmetic.specs.Arithmetic.{Calculated, Value as Gives, TooLarge, BelowZero, Unknown, past_numbers, calculation}
 use Rattle.arithmetic.proofs.Range as Range
 use Rattle.semantics.specs.Limits.{max_frames, max_records, max_entries, budget_spent, stale_reference}
 use Rattle.semantics.specs.Machine.{Value, num, Cell, Entry, Frame, frame, State, state, Outcome, stopped, stuck, live_count, find_key, Target, stale, in_cell, target}

@@ -17,9 +17,7 @@ use Rattle.declarations.specs.Program.{procedure_in, instruction_in}
 use Rattle.judging.specs.Judging.{judge_of}
 use Rattle.acceptance.specs.Judged.{Bytes, Judged}
 use Rattle.acceptance.proofs.Judged.{judged}
-use Rattle.arithmetic.specs.declared.Calculated.{Calculated}
-use Rattle.arithmetic.specs.declared.Calculated.TheVariants.{Value as Gives, TooLarge, BelowZero, Unknown}
-use Rattle.arithmetic.specs.Arithmetic.{calculation}
+use Rattle.arithmetic.specs.Arithmetic.{Calculated, Value as Gives, TooLarge, BelowZero, Unknown, calculation}
 use Rattle.semantics.specs.Machine.{to_field, Value, num, refer, Cell, Entry, Frame, frame, State, state, Outcome, next, finished, stopped, stuck}
 use Rattle.semantics.specs.Step.{instruction, step}
 use Rattle.semantics.specs.Calls.{Call, list_of, calls_of}

@@ -15,9 +15,7 @@ use Rattle.table.specs.Format.{op_write_ref, op_freeze}
 use Rattle.table.specs.Rows.{row_at}
 use Rattle.declarations.specs.Program.{procedure_in, local_count, local_kind}
 use Rattle.reach.specs.Reach.{Mem}
-use Rattle.arithmetic.specs.declared.Calculated.{Calculated}
-use Rattle.arithmetic.specs.declared.Calculated.TheVariants.{Value as Gives, TooLarge, BelowZero, Unknown}
-use Rattle.arithmetic.specs.Arithmetic.{calculation}
+use Rattle.arithmetic.specs.Arithmetic.{Calculated, Value as Gives, TooLarge, BelowZero, Unknown, calculation}
 use Rattle.semantics.specs.Machine.{Ref, to_local, to_field, to_record, Value, num, obj, refer, value_kind, writable, Cell, gone, here, Entry, Frame, frame, State, state, next, stuck, live_count, find_key, put_local, Target, a_record, in_cell, target, write_frames}
 use Rattle.semantics.specs.Step.{pushed_on, Taken, took, missing, taken, also_taken, with_taken, start_locals, returned, none_held, calculated, actions, instruction, effect_at, act, step}
 use Rattle.semantics.specs.Limits.{max_frames, max_records, max_entries}

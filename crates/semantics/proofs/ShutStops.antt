@@ -12,8 +12,7 @@ use Rattle.table.specs.declared.index.Index.{Index}
 use Rattle.table.specs.Format.{op_read_ref, op_write_ref, op_pack, op_move_to, op_move_from, op_call, op_op}
 use Rattle.table.specs.Rows.{row_at}
 use Rattle.reach.specs.Reach.{Mem}
-use Rattle.arithmetic.specs.declared.Calculated.TheVariants.{Value as Gives}
-use Rattle.arithmetic.specs.Arithmetic.{addition, subtraction, is_equal, is_less, calculation}
+use Rattle.arithmetic.specs.Arithmetic.{Value as Gives, addition, subtraction, is_equal, is_less, calculation}
 use Rattle.arithmetic.proofs.Range as Range
 use Rattle.semantics.specs.Machine.{to_local, to_field, Value, num, obj, refer, Cell, gone, Entry, Frame, frame, State, state, next, stopped, live_count}
 use Rattle.semantics.specs.History.{Base, Event, moment, ended}

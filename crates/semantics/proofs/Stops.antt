@@ -16,9 +16,7 @@ use Rattle.table.specs.Format.{op_read_ref, op_write_ref, op_borrow_fld, op_pack
 use Rattle.table.specs.Rows.{row_at}
 use Rattle.declarations.specs.Program.{number, number_ref, record_of, type_in, procedure_in, local_count, local_kind}
 use Rattle.effects.specs.Effects.{Effect, effects, no_effect}
-use Rattle.arithmetic.specs.declared.Calculated.{Calculated}
-use Rattle.arithmetic.specs.declared.Calculated.TheVariants.{Value as Gives, TooLarge, BelowZero, Unknown}
-use Rattle.arithmetic.specs.Arithmetic.{calculation}
+use Rattle.arithmetic.specs.Arithmetic.{Calculated, Value as Gives, TooLarge, BelowZero, Unknown, calculation}
 use Rattle.arithmetic.proofs.Range as Range
 use Rattle.semantics.specs.Limits.{max_frames, max_records, max_entries, budget_spent, too_large, key_taken, no_such_key, stale_reference, too_many_frames, too_many_records, too_many_entries, below_zero}
 use Rattle.semantics.specs.Machine.{Ref, Value, num, refer, value_kind, Cell, Entry, Frame, frame, State, state, Outcome, next, stopped, stuck, live_count, find_key, stale, target}

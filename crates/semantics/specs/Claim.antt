@@ -10,8 +10,7 @@ use Rattle.declarations.specs.Program.{number, is_reference, procedure_in, local
 use Rattle.effects.specs.Kinds.{good}
 use Rattle.operands.specs.Operands.{kinds_before}
 use Rattle.reach.specs.Reach.{Mem}
-use Rattle.arithmetic.specs.declared.Calculated.TheVariants.{Value as Gives}
-use Rattle.arithmetic.specs.Arithmetic.{past_numbers, calculation}
+use Rattle.arithmetic.specs.Arithmetic.{Value as Gives, past_numbers, calculation}
 use Rattle.semantics.specs.Machine.{Ref, to_local, to_field, to_record, Value, value_kind, writable, num, obj, refer, put_local, find_key, Cell, here, Entry, Frame, frame, State, state, Outcome, next, finished, stopped, stuck, a_record, target}
 use Rattle.semantics.specs.Limits.{budget_spent}
 use Rattle.semantics.specs.Step.{pushed_on, start_locals, took, taken, instruction, effect_at, step}

@@ -7,9 +7,7 @@ use Rattle.table.specs.declared.index.Index.{Index}
 use Rattle.declarations.specs.Program.{number, is_record, procedure_in, local_count, local_kind, instruction_in}
 use Rattle.effects.specs.Effects.{Effect}
 use Rattle.operands.specs.Flow.{effect_in}
-use Rattle.arithmetic.specs.declared.Calculated.{Calculated}
-use Rattle.arithmetic.specs.declared.Calculated.TheVariants.{Value as Gives, TooLarge, BelowZero, Unknown}
-use Rattle.arithmetic.specs.Arithmetic.{calculation}
+use Rattle.arithmetic.specs.Arithmetic.{Calculated, Value as Gives, TooLarge, BelowZero, Unknown, calculation}
 use Rattle.semantics.specs.Limits.{max_frames, max_records, max_entries, too_large, below_zero, key_taken, no_such_key, stale_reference, too_many_frames, too_many_records, too_many_entries}
 use Rattle.semantics.specs.Machine.{Ref, to_local, to_field, to_record, Value, num, obj, refer, value_kind, writable, Cell, gone, here, Entry, entry, Frame, frame, State, state, Outcome, next, finished, stopped, stuck, live_count, find_key, drop_key, Target, a_number, a_record, stale, wrong, in_cell, target, write_frames, write_records}
 

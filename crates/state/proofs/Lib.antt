@@ -2,3 +2,4 @@ pub mod Tests
 pub mod Coding
 pub mod Cells
 pub mod Searches
+pub mod Ends

@@ -1,15 +1,18 @@
 -- Laws of the searches for a room that is not in use and for an entry.
 use Prim.Native.Nat.{ℕ, zero, suc, ◌+◌, ◌-◌, ◌<◌, ◌≤◌}
-use mathlib.Core.Path.{◌≡◌, refl}
-use mathlib.Core.Bool.{true, false}
+use mathlib.Core.Path.{◌≡◌, refl, sym}
+use mathlib.Core.Bool.{Bool, true, false, cond}
+use Rattle.std.specs.Prelude.{Option, Some, None, is_some}
 use mathlib.Core.List.{List}
 use native.Mathlib.Numerals.{add-one, sub-one}
 use native.Mathlib.Omega.{arith}
+use borrow.Author.Tests.{lt-ltb, le-ltb, ltb-true, ltb-false}
+use lib.Dec.{ltb}
 use lib.ListN.{get_or}
 use Rattle.state.specs.declared.Operand.{Operand}
 use Rattle.state.specs.declared.Operand.TheVariants.{Empty}
 use Rattle.state.specs.code.Coding.{is_record}
-use Rattle.state.specs.code.Layout.{room_cell}
+use Rattle.state.specs.code.Layout.{room_cell, place_below}
 use Rattle.state.specs.code.Rooms.{first_free}
 use Rattle.state.specs.code.Entries.{is_under, last_under}
 
@@ -26,6 +29,35 @@ module _ (cs : List Operand) (n r : ℕ) where
   pub free_none : n ≤ r → first_free cs r (n - r) ≡ r
   unfolding first_free
   free_none l = let e : n - r ≡ 0 = omega arith in rw e
+
+-- a place that was found; none; what each says
+module _ (n : ℕ) where
+  pub place_here : {x i : ℕ} → x ≡ i → i < n → Some i ≡ place_below n x
+  place_here {x} {i} e l = rw (e, lt-ltb i n l)
+
+  pub place_none : {x : ℕ} → n ≤ x → None ≡ place_below n x
+  place_none {x} l = rw (le-ltb x n l)
+
+  pub found_at : (x : ℕ) {i : ℕ} → Some i ≡ place_below n x → (x ≡ i) × (x < n)
+  found_at x {i} e = go (ltb x n) refl e
+    where
+      go : (b : Bool) → ltb x n ≡ b → Some i ≡ cond b (Some x) None → (x ≡ i) × (x < n)
+      go true t q = (cc, ltb-true x n t)
+      go false t q = absurd (cc)
+
+  pub some_place : (x : ℕ) → is_some (place_below n x) ≡ ltb x n
+  some_place x = go (ltb x n)
+    where
+      go : (b : Bool) → is_some (cond b (Some x) None) ≡ b
+      go true = refl
+      go false = refl
+
+  pub found_none : (x : ℕ) → None ≡ place_below n x → n ≤ x
+  found_none x e = go (ltb x n) refl e
+    where
+      go : (b : Bool) → ltb x n ≡ b → None ≡ cond b (Some x) None → n ≤ x
+      go true t q = absurd (cc)
+      go false t q = ltb-false x n t
 
 -- the last of the first i entries is under the key; it is not; there are none
 module _ (cs : List Operand) (y a absent : ℕ) where

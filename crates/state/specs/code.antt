@@ -2,6 +2,7 @@
 pub mod Coding
 pub mod Cells
 pub mod Layout
+pub mod Stops
 pub mod Frames
 pub mod Rooms
 pub mod Entries

@@ -1,7 +1,7 @@
 // The store's entries: two cells an entry, the address and the record (serial number, room, type). The newest entry is the last.
 ghost use Rattle.std.specs.Prelude.{◌≡◌, ◌<◌};
 ghost use Rattle.state.specs.code.Cells.{cells_of};
-ghost use Rattle.state.specs.code.Layout.{entry_cell};
+ghost use Rattle.state.specs.code.Layout.{entry_cell, place_below};
 ghost use Rattle.state.specs.code.Entries.{is_under_at, last_under, added_in, removed_in};
 
 // The most entries.
@@ -19,24 +19,19 @@ fn is_under(cells: &[u64], o: usize, kind: u8, address: u64) -> bool
     requires { o < 65536 }
     ensures { result ≡ is_under_at (cells_of cells.now) o kind address }
 {
-    if crate::number_at(cells, o) == address {
-        return crate::third_at(cells, o + 1) == kind;
-    }
-    false
+    crate::number_at(cells, o) == address && crate::third_at(cells, o + 1) == kind
 }
 
-// The last of the first n entries that is under a key, n where there is none.
-pub fn find(cells: &[u64], n: u8, kind: u8, address: u64) -> u8
-    ensures { result ≡ last_under (cells_of cells.now) kind address n n }
+// The last of the first n entries that is under a key.
+pub fn find(cells: &[u64], n: u8, kind: u8, address: u64) -> Option<u8>
+    ensures { result ≡ place_below n (last_under (cells_of cells.now) kind address n n) }
 {
-    let mut i = n as usize;
-    while 0 < i {
-        i -= 1;
-        if is_under(cells, 544 + 2 * i, kind, address) {
-            return i as u8;
+    for i in (0..n).rev() {
+        if is_under(cells, entry_cell(i) as usize, kind, address) {
+            return Some(i);
         }
     }
-    n
+    None
 }
 
 // Puts an entry in place i.
@@ -57,14 +52,12 @@ pub fn put_entry(cells: &mut [u64], i: u8, kind: u8, address: u64, serial: u32, 
 pub fn remove_entry(cells: &mut [u64], n: u8, i: u8)
     ensures { cells_of cells.new ≡ removed_in (cells_of cells.old) n i }
 {
-    if i < n {
-        if n <= ENTRIES {
-            crate::move_cells(
-                cells,
-                entry_cell(i),
-                entry_cell(i + 1),
-                2 * ((n - 1 - i) as u16),
-            );
-        }
+    if i < n && n <= ENTRIES {
+        crate::move_cells(
+            cells,
+            entry_cell(i),
+            entry_cell(i + 1),
+            2 * ((n - 1 - i) as u16),
+        );
     }
 }

@@ -6,9 +6,10 @@ ghost use Rattle.state.specs.code.Layout.{operand_cell, local_cell, suspended_ce
 ghost use Rattle.state.specs.code.Frames.{pushed, pushed_in, top_at, dropped, gone_to, gone_on, stopped_with, loaded_in, cleared_in, stored_in, suspended_in, resumed, entered, entered_in, received, received_in, next_serial};
 
 use crate::Operand;
+use crate::stops::Stop;
 
 // Of the running frame: its serial number, its procedure, the instruction that it is at, how many frames are below it, how many operands and how many
-// locals it has. How many frames and how many records there have been. Then 0, or why the call ended; how many entries the store has, a number of rooms past
+// locals it has. How many frames and how many records there have been. Then why the call ended, if it has; how many entries the store has, a number of rooms past
 // which none is in use, and one below which all are. The order of the fields is one in which the compiler keeps them in registers.
 #[derive(Clone, Copy)]
 pub struct State {
@@ -20,24 +21,25 @@ pub struct State {
     pub depth: u8,
     pub height: u8,
     pub count: u8,
-    pub stop: u8,
+    pub stop: Option<Stop>,
     pub entries: u8,
     pub rooms: u8,
     pub free: u8,
 }
 
 // The serial number after n.
+#[tactic(auto, unfolding(crate::specs::code::Frames::next_serial))]
 pub fn next_serial(n: u32) -> u32
     ensures { result ≡ next_serial n }
 {
-    if n < 4294967295 { n + 1 } else { n }
+    n.saturating_add(1)
 }
 
 // What is left of n without k, 0 where k is more.
 pub fn rest(n: u8, k: u8) -> u8
     ensures { result ≡ n - k }
 {
-    if k <= n { n - k } else { 0 }
+    n.saturating_sub(k)
 }
 
 // The first of the two cells of the suspended frame at depth d.
@@ -56,7 +58,7 @@ impl State {
         depth: 0,
         height: 0,
         count: 0,
-        stop: 0,
+        stop: None,
         records: 0,
         frames: 0,
         entries: 0,
@@ -145,18 +147,15 @@ impl State {
     pub fn next(mut self) -> Self
         ensures { result ≡ gone_on self }
     {
-        let i = self.at;
-        if i < 65535 {
-            self.at = i + 1;
-        }
+        self.at = self.at.saturating_add(1);
         self
     }
 
     // The call ended.
-    pub fn stopped(mut self, stop: u8) -> Self
+    pub fn stopped(mut self, stop: Stop) -> Self
         ensures { result ≡ stopped_with self stop }
     {
-        self.stop = stop;
+        self.stop = Some(stop);
         self
     }
 
@@ -192,13 +191,8 @@ impl State {
         ensures { (result ≡ dropped self 1) × (cells_of cells.new ≡ stored_in (cells_of cells.old) self l) }
     {
         let next = self.drop_top(1);
-        let h = self.height;
-        if 0 < h {
-            if l < (self.count as u16) {
-                crate::copy(cells, self.local_cell(l), self.top_cell(0));
-                return next;
-            }
-            return next;
+        if 0 < self.height && l < (self.count as u16) {
+            crate::copy(cells, self.local_cell(l), self.top_cell(0));
         }
         next
     }
@@ -255,9 +249,7 @@ impl State {
         self.height = 0;
         self.count = count;
         self.frames = next_serial(self.frames);
-        if d < 255 {
-            self.depth = d + 1;
-        }
+        self.depth = d.saturating_add(1);
         self
     }
 
@@ -266,12 +258,9 @@ impl State {
         ensures { (result ≡ received self k) × (cells_of cells.new ≡ received_in (cells_of cells.old) self from k) }
     {
         let h = self.height;
-        if h <= 16 {
-            if k <= 16 - h {
-                crate::move_cells(cells, self.operand_cell(h), from, k as u16);
-                self.height = h + k;
-                return self;
-            }
+        if h <= 16 && k <= 16 - h {
+            crate::move_cells(cells, self.operand_cell(h), from, k as u16);
+            self.height = h + k;
         }
         self
     }

@@ -71,6 +71,7 @@ pub fn field_word(s: u32, m: u8, y: u8, j: u8) -> u64
 }
 
 // What a tag and a word stand for.
+#[tactic(auto, unfolding(crate::specs::code::Coding::value_of, crate::specs::code::Coding::values))]
 pub fn value_of(tag: u64, w: u64) -> Operand
     ensures { result ≡ value_of tag w }
 {
@@ -78,13 +79,12 @@ pub fn value_of(tag: u64, w: u64) -> Operand
     let m = (w / 16777216 % 256) as u8;
     let y = (w / 65536 % 256) as u8;
     match tag {
-        0 => Operand::Empty,
         1 => Operand::Number(w),
         2 => Operand::Record(s, m, y),
         3 => Operand::Refer(Reference::Local(s, m, y, (w % 65536) as u16)),
         4 => Operand::Refer(Reference::Field(s, m, y, (w % 256) as u8)),
         5 => Operand::Refer(Reference::Record(s, m, y)),
-        6..=18446744073709551615 => Operand::Empty,
+        _ => Operand::Empty,
     }
 }
 
@@ -103,10 +103,7 @@ pub fn cell(cells: &[u64], o: usize) -> Operand
 fn has_tag(cells: &[u64], o: usize, tag: u64) -> bool
     ensures { result ≡ has_tag cells.now o tag }
 {
-    if o < cells.len() / 2 {
-        return cells[2 * o] == tag;
-    }
-    false
+    o < cells.len() / 2 && cells[2 * o] == tag
 }
 
 // Whether a number is in cell o; whether a record is.
@@ -126,11 +123,8 @@ pub fn is_record(cells: &[u64], o: usize) -> bool
 fn word_at(cells: &[u64], o: usize, tag: u64) -> u64
     ensures { result ≡ word_in cells.now o tag }
 {
-    if o < cells.len() / 2 {
-        let at = 2 * o;
-        if cells[at] == tag {
-            return cells[at + 1];
-        }
+    if o < cells.len() / 2 && cells[2 * o] == tag {
+        return cells[2 * o + 1];
     }
     0
 }
@@ -204,11 +198,8 @@ pub fn copy(cells: &mut [u64], o: usize, p: usize)
 pub fn move_cells(cells: &mut [u64], to: u16, from: u16, k: u16)
     ensures { cells_of cells.new ≡ moved (cells_of cells.old) to from k }
 {
-    let n = k as usize;
-    let mut j: usize = 0;
-    while j < n {
-        copy(cells, (to as usize) + j, (from as usize) + j);
-        j += 1;
+    for j in 0..k as usize {
+        copy(cells, to as usize + j, from as usize + j);
     }
 }
 
@@ -216,10 +207,7 @@ pub fn move_cells(cells: &mut [u64], to: u16, from: u16, k: u16)
 pub fn empty_cells(cells: &mut [u64], at: u16, k: u16)
     ensures { cells_of cells.new ≡ emptied (cells_of cells.old) at k }
 {
-    let n = k as usize;
-    let mut j: usize = 0;
-    while j < n {
-        clear(cells, (at as usize) + j);
-        j += 1;
+    for j in 0..k as usize {
+        clear(cells, at as usize + j);
     }
 }

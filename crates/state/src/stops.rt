@@ -1,25 +1,27 @@
-// Why a call ended: 0 while it runs. The stops of documents 01 and 02 have their names in the rules (semantics/specs/Limits).
+// Why a call ended, by the numbers that the text tells. The stops of documents 01 and 02 have their names in the rules (semantics/specs/Limits).
+ghost use Rattle.std.specs.Prelude.{◌≡◌};
+ghost use Rattle.state.specs.code.Stops.{number_of};
 
-// It is done, or it came to what no accepted table comes to.
-pub const DONE: u8 = 1;
+// It is done, it came to what no accepted table comes to, or it came to a stop.
+#[derive(Clone, Copy, PartialEq, Eq)]
+pub enum Stop {
+    Done = 1,
+    BudgetSpent = 31,
+    TooLarge = 32,
+    KeyTaken = 33,
+    NoSuchKey = 34,
+    StaleReference = 35,
+    TooManyFrames = 36,
+    TooManyRecords = 37,
+    TooManyEntries = 38,
+    BelowZero = 39,
+    Broken = 99,
+}
 
-pub const BROKEN: u8 = 99;
-
-// The stops.
-pub const BUDGET_SPENT: u8 = 31;
-
-pub const TOO_LARGE: u8 = 32;
-
-pub const KEY_TAKEN: u8 = 33;
-
-pub const NO_SUCH_KEY: u8 = 34;
-
-pub const STALE_REFERENCE: u8 = 35;
-
-pub const TOO_MANY_FRAMES: u8 = 36;
-
-pub const TOO_MANY_RECORDS: u8 = 37;
-
-pub const TOO_MANY_ENTRIES: u8 = 38;
-
-pub const BELOW_ZERO: u8 = 39;
+impl Stop {
+    pub fn number(self) -> u8
+        ensures { result ≡ number_of self }
+    {
+        self as u8
+    }
+}

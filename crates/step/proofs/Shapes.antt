@@ -9,123 +9,123 @@ use borrow.Author.Tests.{eqb-true, lt-ltb, le-leb, lt-leb}
 use lib.Dec.{eqb, ltb, leb}
 use lib.ListN.{get_or}
 use Rattle.laws.proofs.Cases.{◌▸◌, each}
-use Rattle.arithmetic.specs.declared.Calculated.{Calculated}
-use Rattle.arithmetic.specs.declared.Calculated.TheVariants.{Value, TooLarge, BelowZero, Unknown}
-use Rattle.semantics.specs.Limits.{too_large, below_zero, stale_reference, key_taken, no_such_key, too_many_frames, too_many_records, too_many_entries}
+use Rattle.arithmetic.specs.Arithmetic.{Calculated, Value, TooLarge, BelowZero, Unknown}
 use Rattle.state.specs.code.Entries.{added_in}
 use Rattle.state.specs.declared.Operand.{Operand}
 use Rattle.state.specs.declared.Operand.TheVariants.{Empty, Number, Record, Refer}
 use Rattle.state.specs.declared.frames.State.{State}
+use Rattle.state.specs.declared.stops.Stop.{Stop}
+use Rattle.state.specs.declared.stops.Stop.TheVariants.{Done, TooManyRecords, TooManyEntries, Broken}
 use Rattle.state.specs.code.Layout.{room_cell}
 use Rattle.state.specs.code.Coding.{is_number, number_of}
-use Rattle.state.specs.code.Frames.{pushed, dropped, gone_to, gone_on, stopped_with, top_at, resumed, resumed_at, entered}
+use Rattle.state.specs.code.Stops.{number_of as stop_number}
+use Rattle.state.specs.code.Frames.{stop_of, pushed, dropped, gone_to, gone_on, stopped_with, top_at, resumed, resumed_at, entered}
+use Rattle.state.specs.code.Cells.{held_at}
 use Rattle.state.specs.code.Rooms.{is_live, field_cell, first_free}
-use Rattle.references.specs.declared.targets.Target.{Target}
-use Rattle.references.specs.declared.targets.Target.TheVariants.{Number as ToNumber, Record as ToRecord, Stale, Impossible}
-use Rattle.frame.specs.code.Turning.{Turning, after, done, broken, ends}
+use Rattle.frame.specs.code.Turning.{Turning, after, done, ends}
 use Rattle.frame.specs.code.Operations.{closed, operated}
-use Rattle.references.specs.code.Targets.{target_top, read_at, written_at, borrowed_as, borrowed_in}
+use Rattle.references.specs.code.Targets.{Target, ToNumber, ToRecord, Stale, Impossible, target_top, read_at, written_at, borrowed_as, borrowed_in}
 use Rattle.records.specs.code.Packing.{packed_state, packed_in, unpacked_top}
 use Rattle.records.specs.code.Published.{with_entries, found, published_as, moved_to, taken_out}
 use Rattle.frame.specs.code.Control.{within, called_in, returned_to, ret_of, branched_by}
 use Rattle.step.specs.code.Step.{turns}
 
 pub record Bounded (s s' : State) : Type 0 where
-  pub runs_on : s'.stop ≡ s.stop
+  pub runs_on : stop_of s' ≡ stop_of s
   pub depth_low : s.depth < 16 → s'.depth < 16
   pub entries-low : s.entries ≤ 64 → s'.entries ≤ 64
   pub rooms_low : s.rooms ≤ 128 → s'.rooms ≤ 128
 
 -- by whether it is a Ret
 pub data Shape (cs : List Operand) (s : State) : Bool → Turning → Type 0 where
-  finishes : s.depth ≡ 0 → Shape cs s true (ends cs s done)
-  stays : {r : Bool} (k : ℕ) → ltb done k ≡ true → Shape cs s r (ends cs s k)
+  finishes : s.depth ≡ 0 → Shape cs s true (ends cs s Done)
+  stays : {r : Bool} (k : Stop) → ltb done (stop_number k) ≡ true → Shape cs s r (ends cs s k)
   goes : {r : Bool} {s' : State} {cs' : List Operand} → Bounded s s' → Shape cs s r (after s' cs')
 
 module _ (cs : List Operand) (s : State) where
   -- all of them are as they were
-  same : {s' : State} → s'.stop ≡ s.stop → s'.depth ≡ s.depth → s'.entries ≡ s.entries → s'.rooms ≡ s.rooms → Bounded s s'
+  same : {s' : State} → stop_of s' ≡ stop_of s → s'.depth ≡ s.depth → s'.entries ≡ s.entries → s'.rooms ≡ s.rooms → Bounded s s'
   same e d n m = record { runs_on = e; depth_low = λ h. omega arith; entries-low = λ h. omega arith; rooms_low = λ h. omega arith }
 
-  calm : {r : Bool} {s' : State} {cs' : List Operand} → s'.stop ≡ s.stop → s'.depth ≡ s.depth → s'.entries ≡ s.entries → s'.rooms ≡ s.rooms → Shape cs s r (after s' cs')
+  calm : {r : Bool} {s' : State} {cs' : List Operand} → stop_of s' ≡ stop_of s → s'.depth ≡ s.depth → s'.entries ≡ s.entries → s'.rooms ≡ s.rooms → Shape cs s r (after s' cs')
   calm e d n m = goes (same e d n m)
 
   either : {r : Bool} → (b : Bool) {x y : Turning} → Shape cs s r x → Shape cs s r y → Shape cs s r (cond b x y)
   either true a b = a
   either false a b = b
 
-  number : {r : Bool} → (x : Operand) {t : Turning} → Shape cs s r t → Shape cs s r (cond (is_number x) t (ends cs s broken))
-  number x h = either (is_number x) h (stays broken refl)
+  number : {r : Bool} → (x : Operand) {t : Turning} → Shape cs s r t → Shape cs s r (cond (is_number x) t (ends cs s Broken))
+  number x h = either (is_number x) h (stays _ refl)
 
   closes : {r : Bool} → (x : Calculated) → Shape cs s r (closed cs s x)
   closes (Value v) = calm refl refl refl refl
-  closes TooLarge = stays too_large refl
-  closes BelowZero = stays below_zero refl
-  closes Unknown = stays broken refl
+  closes TooLarge = stays _ refl
+  closes BelowZero = stays _ refl
+  closes Unknown = stays _ refl
 
   reads : {r : Bool} → (x : Target) → Shape cs s r (read_at cs s x)
   reads (ToNumber o) = calm refl refl refl refl
-  reads (ToRecord c m) = stays broken refl
-  reads Stale = stays stale_reference refl
-  reads Impossible = stays broken refl
+  reads (ToRecord c m) = stays _ refl
+  reads Stale = stays _ refl
+  reads Impossible = stays _ refl
 
   writes : {r : Bool} → (x : Target) (n : ℕ) → Shape cs s r (written_at cs s x n)
   writes (ToNumber o) n = calm refl refl refl refl
-  writes (ToRecord c m) n = stays broken refl
-  writes Stale n = stays stale_reference refl
-  writes Impossible n = stays broken refl
+  writes (ToRecord c m) n = stays _ refl
+  writes Stale n = stays _ refl
+  writes Impossible n = stays _ refl
 
   borrows_held : {r : Bool} → (c m y j : ℕ) (x : Operand) → Shape cs s r (borrowed_as cs s c m y j x)
-  borrows_held c m y j Empty = stays broken refl
+  borrows_held c m y j Empty = stays _ refl
   borrows_held c m y j (Number n) = calm refl refl refl refl
   borrows_held c m y j (Record a r k) = calm refl refl refl refl
-  borrows_held c m y j (Refer r) = stays broken refl
+  borrows_held c m y j (Refer r) = stays _ refl
 
   borrows : {r : Bool} → (x : Target) (y j : ℕ) → Shape cs s r (borrowed_in cs s x y j)
-  borrows (ToNumber o) y j = stays broken refl
-  borrows (ToRecord c m) y j = borrows_held c m y j (get_or cs (field_cell cs m j) Empty)
-  borrows Stale y j = stays stale_reference refl
-  borrows Impossible y j = stays broken refl
+  borrows (ToNumber o) y j = stays _ refl
+  borrows (ToRecord c m) y j = borrows_held c m y j (held_at cs (field_cell cs m j))
+  borrows Stale y j = stays _ refl
+  borrows Impossible y j = stays _ refl
 
-  packs : {b : Bool} (k y r : ℕ) → Shape cs s b (cond (leb 128 r) (ends cs s too_many_records) (packed_in cs s k y r))
+  packs : {b : Bool} (k y r : ℕ) → Shape cs s b (cond (leb 128 r) (ends cs s TooManyRecords) (packed_in cs s k y r))
   packs k y r = go (dec_lt r 128)
     where
       more : (b : Bool) → s.rooms ≤ 128 → r < 128 → cond b (r + 1) s.rooms ≤ 128
       more true l h = omega arith
       more false l h = l
 
-      go : {b : Bool} → Dec (r < 128) → Shape cs s b (cond (leb 128 r) (ends cs s too_many_records) (packed_in cs s k y r))
+      go : {b : Bool} → Dec (r < 128) → Shape cs s b (cond (leb 128 r) (ends cs s TooManyRecords) (packed_in cs s k y r))
       go (yes h) = rw (lt-leb 128 r h) (goes {s' = gone_on (pushed (dropped (packed_state s r) k))} (record { runs_on = refl; depth_low = λ l. l; entries-low = λ l. l; rooms_low = λ l. rw (lt-ltb r 255 (omega arith)) (more (leb s.rooms r) l h) }))
-      go (no h) = rw (le-leb 128 r (omega arith)) (stays too_many_records refl)
+      go (no h) = rw (le-leb 128 r (omega arith)) (stays _ refl)
 
   unpacks : {r : Bool} → (x : Operand) → Shape cs s r (unpacked_top cs s x)
-  unpacks Empty = stays broken refl
-  unpacks (Number n) = stays broken refl
-  unpacks (Record c m y) = either (is_live (get_or cs (room_cell m) Empty) c) (calm refl refl refl refl) (stays broken refl)
-  unpacks (Refer r) = stays broken refl
+  unpacks Empty = stays _ refl
+  unpacks (Number n) = stays _ refl
+  unpacks (Record c m y) = either (is_live (get_or cs (room_cell m) Empty) c) (calm refl refl refl refl) (stays _ refl)
+  unpacks (Refer r) = stays _ refl
 
   adds : {r : Bool} → (y a c m : ℕ) → Shape cs s r (published_as cs s y a c m)
-  adds y a c m = either (ltb (found cs s y a) s.entries) (stays key_taken refl) (go (dec_lt s.entries 64))
+  adds y a c m = either (ltb (found cs s y a) s.entries) (stays _ refl) (go (dec_lt s.entries 64))
     where
-      go : {r : Bool} → Dec (s.entries < 64) → Shape cs s r (cond (leb 64 s.entries) (ends cs s too_many_entries) (after (gone_on (dropped (with_entries s (s.entries + 1)) 2)) (added_in cs s.entries y a c m)))
+      go : {r : Bool} → Dec (s.entries < 64) → Shape cs s r (cond (leb 64 s.entries) (ends cs s TooManyEntries) (after (gone_on (dropped (with_entries s (s.entries + 1)) 2)) (added_in cs s.entries y a c m)))
       go (yes h) = rw (lt-leb 64 s.entries h) (goes {s' = gone_on (dropped (with_entries s (s.entries + 1)) 2)} (record { runs_on = refl; depth_low = λ l. l; entries-low = λ l. omega arith; rooms_low = λ l. l }))
-      go (no h) = rw (le-leb 64 s.entries (omega arith)) (stays too_many_entries refl)
+      go (no h) = rw (le-leb 64 s.entries (omega arith)) (stays _ refl)
 
   publishes : {r : Bool} → (y a : ℕ) (x : Operand) → Shape cs s r (moved_to cs s y a x)
-  publishes y a Empty = stays broken refl
-  publishes y a (Number n) = stays broken refl
+  publishes y a Empty = stays _ refl
+  publishes y a (Number n) = stays _ refl
   publishes y a (Record c m k) = adds y a c m
-  publishes y a (Refer r) = stays broken refl
+  publishes y a (Refer r) = stays _ refl
 
   withdraws : {r : Bool} → (y i : ℕ) → Shape cs s r (taken_out cs s y i)
-  withdraws y i = either (leb s.entries i) (stays no_such_key refl) (goes (record { runs_on = refl; depth_low = λ l. l; entries-low = λ l. omega arith; rooms_low = λ l. l }))
+  withdraws y i = either (leb s.entries i) (stays _ refl) (goes (record { runs_on = refl; depth_low = λ l. l; entries-low = λ l. omega arith; rooms_low = λ l. l }))
 
   calls : {r : Bool} → (procedure k count : ℕ) → Shape cs s r (called_in cs s procedure k count)
   calls procedure k count = go (dec_lt s.depth 15)
     where
       go : {r : Bool} → Dec (s.depth < 15) → Shape cs s r (called_in cs s procedure k count)
       go (yes h) = rw (lt-leb 15 s.depth h) (goes {s' = entered (dropped s k) procedure count} (record { runs_on = refl; depth_low = λ l. rw (lt-ltb s.depth 255 (omega arith)) (omega arith); entries-low = λ l. l; rooms_low = λ l. l }))
-      go (no h) = rw (le-leb 15 s.depth (omega arith)) (stays too_many_frames refl)
+      go (no h) = rw (le-leb 15 s.depth (omega arith)) (stays _ refl)
 
   resumes : Bounded s (resumed cs s)
   resumes = go (eqb s.depth 0)
@@ -137,22 +137,22 @@ module _ (cs : List Operand) (s : State) where
   returns : (k : ℕ) → Shape cs s true (ret_of cs s k)
   returns k = go (eqb s.depth 0) refl
     where
-      go : (b : Bool) → eqb s.depth 0 ≡ b → Shape cs s true (cond b (ends cs s done) (returned_to cs s (k % 256)))
+      go : (b : Bool) → eqb s.depth 0 ≡ b → Shape cs s true (cond b (ends cs s Done) (returned_to cs s (k % 256)))
       go true e = finishes (eqb-true s.depth 0 e)
       go false e = goes (record { runs_on = resumes.runs_on; depth_low = resumes.depth_low; entries-low = resumes.entries-low; rooms_low = resumes.rooms_low })
 
   branches : {r : Bool} → (b : ℕ) (x : Operand) → Shape cs s r (after (branched_by s b x) cs)
   branches b x = go (is_number x) (eqb (number_of x) 0)
     where
-      go : {r : Bool} → (n c : Bool) → Shape cs s r (after (cond n (cond c (gone_on (dropped s 1)) (gone_to (dropped s 1) b)) (stopped_with s broken)) cs)
+      go : {r : Bool} → (n c : Bool) → Shape cs s r (after (cond n (cond c (gone_on (dropped s 1)) (gone_to (dropped s 1) b)) (stopped_with s Broken)) cs)
       go true true = calm refl refl refl refl
       go true false = calm refl refl refl refl
-      go false c = stays broken refl
+      go false c = stays _ refl
 
   -- by opcode
-  pub turn_shape : (b d kind fields parameters count results a : ℕ) → Shape cs s (eqb a 16) (get_or (turns b d kind fields parameters count results cs s) a (ends cs s broken))
+  pub turn_shape : (b d kind fields parameters count results a : ℕ) → Shape cs s (eqb a 16) (get_or (turns b d kind fields parameters count results cs s) a (ends cs s Broken))
   unfolding turns
-  turn_shape b d kind fields parameters count results = each (λ (a : ℕ). Shape cs s (eqb a 16)) (turns b d kind fields parameters count results cs s) (ends cs s broken) (
+  turn_shape b d kind fields parameters count results = each (λ (a : ℕ). Shape cs s (eqb a 16)) (turns b d kind fields parameters count results cs s) (ends cs s Broken) (
       calm refl refl refl refl ▸ calm refl refl refl refl ▸ calm refl refl refl refl ▸ calm refl refl refl refl ▸ calm refl refl refl refl ▸ calm refl refl refl refl
       ▸ reads (target_top cs s)
       ▸ number (top_at cs s 1) (writes (target_top cs s) (number_of (top_at cs s 1)))
@@ -161,7 +161,7 @@ module _ (cs : List Operand) (s : State) where
       ▸ unpacks (top_at cs s 0)
       ▸ number (top_at cs s 0) (publishes (b % 256) (number_of (top_at cs s 0)) (top_at cs s 1))
       ▸ number (top_at cs s 0) (withdraws (b % 256) (found cs s (b % 256) (number_of (top_at cs s 0))))
-      ▸ number (top_at cs s 0) (either (leb s.entries (found cs s (b % 256) (number_of (top_at cs s 0)))) (stays no_such_key refl) (calm refl refl refl refl))
+      ▸ number (top_at cs s 0) (either (leb s.entries (found cs s (b % 256) (number_of (top_at cs s 0)))) (stays _ refl) (calm refl refl refl refl))
       ▸ number (top_at cs s 0) (calm refl refl refl refl)
       ▸ calls b (parameters % 256) (within count)
       ▸ returns results
@@ -169,4 +169,4 @@ module _ (cs : List Operand) (s : State) where
       ▸ branches b (top_at cs s 0)
       ▸ closes (operated b (top_at cs s 1) (top_at cs s 0))
       ▸ calm refl refl refl refl
-      ▸ tt) (λ a. stays broken refl)
+      ▸ tt) (λ a. stays _ refl)

@@ -7,7 +7,7 @@ ghost use Rattle.frame.specs.code.Turning.{after};
 ghost use Rattle.step.specs.code.Step.{turn_of};
 
 use state::frames::State;
-use state::stops;
+use state::stops::Stop;
 use table::index::{ProcedureEntry, TypeEntry};
 use table::{Row, format};
 
@@ -48,6 +48,6 @@ pub fn step(
         format::OP => frame::operations::op(s, cells, b),
         // A cell does not tell whether a reference is read-only: the judge has seen that it is not written through.
         format::FREEZE => s.next(),
-        format::PAST_OPCODES..=255 => s.stopped(stops::BROKEN),
+        format::PAST_OPCODES..=255 => s.stopped(Stop::Broken),
     }
 }

@@ -7,8 +7,9 @@ use mathlib.Core.Option.{Option, none, some}
 use native.Mathlib.Numerals.{unary_clauses, add-one}
 use native.Mathlib.Omega.{arith}
 use lib.Dec.{eqb}
-use lib.ListN.{length, get_or, drop, drop_of_length-le, get_elem? as nth}
-use lib.Seq.{drop-cons}
+use Rattle.std.proofs.lemmas.List.{map-append}
+use lib.ListN.{length, get_or, take, get_elem? as nth}
+use lib.Seq.{take-suc}
 use Rattle.table.specs.Format.{max_types}
 use Rattle.semantics.specs.Ascii.{ascii}
 use Rattle.semantics.specs.Text.{decimal, spaced}
@@ -17,13 +18,14 @@ use Rattle.state.specs.declared.Operand.TheVariants.{Empty, Number, Record, Refe
 use Rattle.state.specs.code.Coding.{number_of, first_of, second_of, third_of}
 use Rattle.state.specs.code.Layout.{entry_cell, room_cell}
 use Rattle.state.specs.code.Rooms.{is_live}
-use Rattle.machine.specs.code.Machine.{MRoom, mroom, room_of}
+use Rattle.machine.specs.code.Machine.{MRoom, mroom, MEntry, room_of}
 use Rattle.machine.specs.code.Lists.{mvalues, fields_of_room, mfields, mentry_line, mentry_lines}
 use Rattle.machine.specs.code.Views.{up_from, room_by, room_in, rooms_in, entry_in}
 use Rattle.machine.proofs.Views.{up_append}
 use Rattle.machine.proofs.Memory.{head_in, room_at, room_past}
-use Rattle.text.specs.code.Placing.{placed}
-use Rattle.text.proofs.Placing.{Puts, placed_append, puts_more, puts_same}
+use Rattle.text.specs.declared.Writer.{Writer}
+use Rattle.text.specs.code.Placing.{Puts}
+use Rattle.text.proofs.Placing.{puts_more, puts_same}
 
 -- the values of two lists
 values_append : (f : ℕ → ℕ → List ℕ) (xs ys : List Operand) → mvalues f (xs ++ ys) ≡ mvalues f xs ++ mvalues f ys
@@ -43,11 +45,8 @@ unfolding up_from
 values_more f cs b j = sym (values_append f (up_from cs b j) (get_or cs (b + j) Empty ∷ [])) ∙ ap (mvalues f) (sym (up_append cs b j 1))
 
 -- a nested record, part by part
-pub record_value : (f : ℕ → ℕ → List ℕ) (s : List ℕ) (at a m y : ℕ) {e₁ e₂ e₃ : ℕ} {t₁ t₂ t₃ : List ℕ}
-    → Puts s at (spaced (ascii "(" ++ decimal y)) t₁ e₁ → Puts t₁ e₁ (f a m) t₂ e₂ → Puts t₂ e₂ (ascii ")") t₃ e₃ → Puts s at (mvalues f (Record a m y ∷ [])) t₃ e₃
-record_value f s at a m y p₁ p₂ p₃ =
-    let w₁ = spaced (ascii "(" ++ decimal y) in
-    puts_same s at (simp (append_assoc, append-nil)) (puts_more s at (w₁ ++ f a m) (ascii ")") _ _ (puts_more s at w₁ (f a m) _ _ p₁ p₂) p₃)
+pub record_value : (f : ℕ → ℕ → List ℕ) (a m y : ℕ) {w v u z : Writer} → Puts w (spaced (ascii "(" ++ decimal y)) v → Puts v (f a m) u → Puts u (ascii ")") z → Puts w (mvalues f (Record a m y ∷ [])) z
+record_value f a m y p q r = puts_same (simp (append_assoc, append-nil)) (puts_more (puts_more p q) r)
 
 -- the fields of a record: none at depth 0, past the last room, and where it is not in its room
 module _ (cs : List Operand) (d s r : ℕ) where
@@ -95,24 +94,28 @@ module _ (cs : List Operand) (d s r : ℕ) where
       go (suc n) q = rw (fields_live l, e) (simp unary_clauses)
 
 -- the line of entry i, part by part
-pub entry-line : (cs : List Operand) (i : ℕ) (s : List ℕ) (at : ℕ) {o y a b m e₁ e₂ e₃ e₄ e₅ : ℕ} {t₁ t₂ t₃ t₄ t₅ : List ℕ}
+pub entry-line : (cs : List Operand) (i : ℕ) {o y a b m : ℕ} {w w₁ w₂ w₃ w₄ w₅ : Writer}
     → o ≡ entry_cell i → y ≡ third_of (get_or cs (o + 1) Empty) → a ≡ number_of (get_or cs o Empty) → b ≡ first_of (get_or cs (o + 1) Empty) → m ≡ second_of (get_or cs (o + 1) Empty)
-    → Puts s at (ascii "store") t₁ e₁ → Puts t₁ e₁ (spaced (decimal y)) t₂ e₂ → Puts t₂ e₂ (spaced (decimal a)) t₃ e₃ → Puts t₃ e₃ (mfields max_types (rooms_in cs) b m) t₄ e₄ → Puts t₄ e₄ (ascii "\n") t₅ e₅
-    → Puts s at (mentry_line (rooms_in cs) (entry_in cs i)) t₅ e₅
+    → Puts w (ascii "store") w₁ → Puts w₁ (spaced (decimal y)) w₂ → Puts w₂ (spaced (decimal a)) w₃ → Puts w₃ (mfields max_types (rooms_in cs) b m) w₄ → Puts w₄ (ascii "\n") w₅
+    → Puts w (mentry_line (rooms_in cs) (entry_in cs i)) w₅
 unfolding mentry_line
-entry-line cs i s at {o} {y} {a} {b} {m} o_is y-is a-is b_is m-is p₁ p₂ p₃ p₄ p₅ =
-    let w₂ = ascii "store" ++ spaced (decimal y) in
-    let w₃ = w₂ ++ spaced (decimal a) in
-    let w₄ = w₃ ++ mfields max_types (rooms_in cs) b m in
-    rw (← o_is, ← y-is, ← a-is, ← b_is, ← m-is) (puts_more s at w₄ (ascii "\n") _ _ (puts_more s at w₃ (mfields max_types (rooms_in cs) b m) _ _ (puts_more s at w₂ (spaced (decimal a)) _ _ (puts_more s at (ascii "store") (spaced (decimal y)) _ _ p₁ p₂) p₃) p₄) p₅)
+entry-line cs i o_is y-is a-is b_is m-is p₁ p₂ p₃ p₄ p₅ =
+    rw (← o_is, ← y-is, ← a-is, ← b_is, ← m-is) (puts_more (puts_more (puts_more (puts_more p₁ p₂) p₃) p₄) p₅)
 
--- the lines of the entries whose numbers stand from place i on: that of the first of them, and those of the rest
-pub lines_more : (rooms : List (Option MRoom)) (cs : List Operand) (numbers : List ℕ) (i : ℕ) (t : List ℕ) (e : ℕ) {u : List ℕ} {r : ℕ} → i < length numbers → Puts t e (mentry_line rooms (entry_in cs (get_or numbers i 0))) u r
-    → placed t e (mentry_lines rooms (map (entry_in cs) (drop i numbers))) ≡ placed u r (mentry_lines rooms (map (entry_in cs) (drop (i + 1) numbers)))
+-- the lines of the first i entries: one more
+lines_append : (rooms : List (Option MRoom)) (es fs : List MEntry) → mentry_lines rooms (es ++ fs) ≡ mentry_lines rooms es ++ mentry_lines rooms fs
 unfolding mentry_lines
-lines_more rooms cs numbers i t e l p = rw (drop-cons numbers i 0 l, add-one i, placed_append t e (mentry_line rooms (entry_in cs (get_or numbers i 0))) (mentry_lines rooms (map (entry_in cs) (drop (suc i) numbers))), ← p.0, ← p.1)
+lines_append rooms [] fs = refl
+lines_append rooms (e ∷ es) fs = rw (lines_append rooms es fs) (sym (append_assoc (mentry_line rooms e) (mentry_lines rooms es) (mentry_lines rooms fs)))
 
--- no entry is left
-pub lines-done : (rooms : List (Option MRoom)) (cs : List Operand) (numbers : List ℕ) (i : ℕ) (s : List ℕ) (at : ℕ) (bytes t : List ℕ) (e : ℕ) → length numbers ≤ i → placed s at bytes ≡ placed t e (mentry_lines rooms (map (entry_in cs) (drop i numbers))) → Puts s at bytes t e
-unfolding mentry_lines placed
-lines-done rooms cs numbers i s at bytes t e l h = rw (h, drop_of_length-le numbers l) (refl, refl)
+pub lines_more : (rooms : List (Option MRoom)) (cs : List Operand) (numbers : List ℕ) (i : ℕ) → i < length numbers
+    → mentry_lines rooms (map (entry_in cs) (take i numbers)) ++ mentry_line rooms (entry_in cs (get_or numbers i 0)) ≡ mentry_lines rooms (map (entry_in cs) (take (i + 1) numbers))
+unfolding mentry_lines
+lines_more rooms cs numbers i l =
+    rw (add-one i, take-suc numbers i 0 l, map-append (entry_in cs) (take i numbers) (get_or numbers i 0 ∷ []), lines_append rooms (map (entry_in cs) (take i numbers)) (entry_in cs (get_or numbers i 0) ∷ []))
+    (ap (λ (xs : List ℕ). mentry_lines rooms (map (entry_in cs) (take i numbers)) ++ xs) (sym (append-nil _)))
+
+-- no line
+pub lines-none : (rooms : List (Option MRoom)) → [] ≡ mentry_lines rooms []
+unfolding mentry_lines
+lines-none rooms = refl

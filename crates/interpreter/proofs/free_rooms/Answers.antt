@@ -7,10 +7,10 @@ use Rattle.interpreter.proofs.free_rooms.Goals as goal
 
 pub loop-j-init : goal.loop-j-init
 unfolding freed
-loop-j-init c = (omega arith, refl, refl)
+loop-j-init c = (refl, refl)
 
 pub loop-j-preserved : goal.loop-j-preserved
-loop-j-preserved c = (omega arith, search rules, freed_more _ _ _ _ _ c.loop-j.invariant.2 refl c.clear.ensures)
+loop-j-preserved c = (search rules, freed_more _ _ _ _ _ c.loop-j.invariant.1 refl c.clear.ensures)
 
 pub returns : goal.returns
-returns c = let e : c.loop-j.j ≡ c.args.n = omega arith in rw e at c.loop-j.invariant.2
+returns c = let e : c.loop-j.j ≡ c.args.n = omega arith in rw e at c.loop-j.invariant.1

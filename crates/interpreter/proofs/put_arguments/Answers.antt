@@ -22,7 +22,7 @@ unfolding filled
 returns-then-list-i c = rw (arguments-end c.args.list.now (c.args.i + 1) (row_count c.args.list.now) (omega (arith, c.if-list-i.true)))
 
 pub loop-k-init : goal.loop-k-init
-loop-k-init c = (omega arith, refl, refl)
+loop-k-init c = (refl, refl)
 
 pub overflow_add-k : goal.overflow_add-k
 overflow_add-k c = let h = (there _ _ _ c.argument_count-n.ensures c.loop-k-test.true).2 in search (rules, h)
@@ -34,7 +34,7 @@ pub loop-k-preserved : goal.loop-k-preserved
 unfolding value_of values
 loop-k-preserved c =
     let h = there _ _ _ c.argument_count-n.ensures c.loop-k-test.true in
-    (omega arith, search rules, filled_more _ _ _ _ _ _ h.0 (ap (λ (r : Row). r.d) c.row_at.ensures ∙ sym h.1) c.loop-k.invariant.2 c.put.ensures)
+    (search rules, filled_more _ _ _ _ _ _ h.0 (ap (λ (r : Row). r.d) c.row_at.ensures ∙ sym h.1) c.loop-k.invariant.1 c.put.ensures)
 
 pub returns : goal.returns
-returns c = filled-done _ _ _ _ _ (omega (arith, c.loop-k-test.false, c.argument_count-n.ensures)) c.loop-k.invariant.2
+returns c = filled-done _ _ _ _ _ (omega (arith, c.loop-k-test.false, c.argument_count-n.ensures)) c.loop-k.invariant.1

@@ -13,7 +13,5 @@ abbrev pub given : List ℕ → ℕ → List ℕ
 given list i = arguments list (i + 1) (row_count list - (i + 1))
 
 abbrev pub invariant-loop-k : goal.invariant-loop-k
-invariant-loop-k l = (l.k ≤ l.n) × (length l.cells ≡ length l.initial.cells) × (filled (cells_of l.initial.cells) 16 (given l.list l.i) ≡ filled (cells_of l.cells) (16 + l.k) (drop l.k (given l.list l.i)))
+invariant-loop-k l = (length l.cells ≡ length l.initial.cells) × (filled (cells_of l.initial.cells) 16 (given l.list l.i) ≡ filled (cells_of l.cells) (16 + l.k) (drop l.k (given l.list l.i)))
 
-abbrev pub decreases-loop-k : goal.decreases-loop-k
-decreases-loop-k l = l.n - l.k

@@ -1,5 +1,5 @@
 -- A call of a list: its beginning, its instructions, and what there is after it.
-use Rattle.std.specs.Prelude.{ℕ, zero, suc, ◌+◌, ◌-◌, ◌*◌, Bool, true, not, cond, List, [], ◌∷◌, eqb, leb, length, get_or, set}
+use Rattle.std.specs.Prelude.{ℕ, None, zero, suc, ◌+◌, ◌-◌, ◌*◌, Bool, true, not, cond, List, [], ◌∷◌, eqb, leb, length, get_or, set}
 use Rattle.table.specs.declared.index.Index.{Index}
 use Rattle.declarations.specs.Program.{procedure_in, local_count}
 use Rattle.semantics.specs.Calls.{Call, call}
@@ -8,7 +8,7 @@ use Rattle.state.specs.declared.Operand.TheVariants.{Empty, Number}
 use Rattle.state.specs.declared.frames.State.{State}
 use Rattle.state.specs.code.Cells.{emptied}
 use Rattle.state.specs.code.Layout.{room_cell}
-use Rattle.state.specs.code.Frames.{next_serial}
+use Rattle.state.specs.code.Frames.{stop_of, next_serial}
 use Rattle.frame.specs.code.Turning.{Turning, after, done}
 use Rattle.frame.specs.code.Control.{within}
 use Rattle.interpreter.specs.code.Run.{run_from, same_from}
@@ -42,7 +42,7 @@ filled cs at (x ∷ xs) = filled (set cs at (Number x)) (at + 1) xs
 
 -- a call of procedure p begins
 abbrev pub begun : State → ℕ → ℕ → State
-begun s p count = record { serial = s.frames; procedure = p; at = 0; depth = 0; height = 0; count = count; stop = 0; records = s.records; frames = next_serial s.frames; entries = s.entries; rooms = s.rooms; free = s.free }
+begun s p count = record { serial = s.frames; procedure = p; at = 0; depth = 0; height = 0; count = count; stop = None; records = s.records; frames = next_serial s.frames; entries = s.entries; rooms = s.rooms; free = s.free }
 
 abbrev pub begun_in : List Operand → ℕ → List ℕ → List Operand
 begun_in cs count args = filled (emptied cs 16 count) 16 args
@@ -56,7 +56,7 @@ restored_in cs ks s first = freed (kept_of cs ks first) first.rooms (s.rooms - f
 
 -- `same`: entries and rooms are those of its beginning
 abbrev pub restored_to : List Operand → State → Bool → Turning → Turning
-restored_to ks first same (after s cs) = cond same (after s cs) (cond (eqb s.stop done) (after s cs) (after (restored s first) (restored_in cs ks s first)))
+restored_to ks first same (after s cs) = cond same (after s cs) (cond (eqb (stop_of s) done) (after s cs) (after (restored s first) (restored_in cs ks s first)))
 
 -- whether they are those that are kept
 abbrev pub same_restored : Bool → ℕ → Bool

@@ -8,9 +8,10 @@ use Rattle.table.specs.Format.{op_write_ref, op_pack, op_unpack, op_move_to, op_
 use Rattle.table.specs.Index.{no_type, no_procedure}
 use Rattle.table.specs.Rows.{row_at}
 use Rattle.declarations.specs.Program.{code_of}
-use Rattle.semantics.specs.Limits.{budget_spent}
 use Rattle.state.specs.declared.Operand.{Operand}
 use Rattle.state.specs.declared.frames.State.{State}
+use Rattle.state.specs.declared.stops.Stop.TheVariants.{BudgetSpent}
+use Rattle.state.specs.code.Frames.{stop_of}
 use Rattle.frame.specs.code.Turning.{Turning, after, ends}
 use Rattle.step.specs.code.Step.{turn_of}
 
@@ -23,7 +24,7 @@ type_of ix y = get_or ix.type_entries (y % 64) no_type
 
 -- a turn goes on, or ends the call
 abbrev pub onward : Turning → (List Operand → State → Turning) → Turning
-onward (after s cs) rest = cond (eqb s.stop 0) (rest cs s) (after s cs)
+onward (after s cs) rest = cond (eqb (stop_of s) 0) (rest cs s) (after s cs)
 
 -- whether an instruction with this opcode can change entries or rooms
 unfoldable pub changes_memory : ℕ → Bool
@@ -34,7 +35,7 @@ abbrev pub same_by : Bool → ℕ → Bool
 same_by same a = cond (changes_memory a) false same
 
 abbrev pub same_onward : Turning → (List Operand → State → Bool) → Bool
-same_onward (after s cs) rest = cond (eqb s.stop 0) (rest cs s) true
+same_onward (after s cs) rest = cond (eqb (stop_of s) 0) (rest cs s) true
 
 -- in a table with this index
 module _ (t : List ℕ) (ix : Index) where
@@ -51,7 +52,7 @@ module _ (t : List ℕ) (ix : Index) where
 
   -- a call, of which so much of the budget is left
   unfoldable pub run_from : ℕ → List Operand → State → Turning
-  run_from zero cs s = ends cs s budget_spent
+  run_from zero cs s = ends cs s BudgetSpent
   run_from (suc left) cs s = onward (step_at cs s) (run_from left)
 
   -- whether no instruction that is done can change entries or rooms

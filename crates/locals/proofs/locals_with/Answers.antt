@@ -1,6 +1,4 @@
-use Rattle.locals.specs.code.Within.{locals_within}
 use Rattle.locals.proofs.Laws.{procedures_done, procedure_accepted, procedure_refused}
-use Rattle.declarations.proofs.Laws.{pass_start}
 use Rattle.declarations.specs.Program.{code_of}
 use Rattle.std.proofs.lemmas.Result.{err_from_is_err_and}
 use mathlib.Core.Path.{sym, ◌∙◌}

@@ -2,9 +2,7 @@
 use Rattle.std.specs.Prelude.{ℕ, zero, suc, ◌+◌, ◌/◌, ◌%◌, cond, ◌&&◌, List, [], ◌∷◌, ◌++◌, eqb, ltb, length, set, take, drop, replicate}
 use Rattle.std.proofs.Math.Option.{Option, none, some}
 use Rattle.std.proofs.Math.ListN.{get_elem? as nth}
-use Rattle.arithmetic.specs.declared.Calculated.{Calculated}
-use Rattle.arithmetic.specs.declared.Calculated.TheVariants.{Value, TooLarge, BelowZero, Unknown}
-use Rattle.arithmetic.specs.Arithmetic.{calculation}
+use Rattle.arithmetic.specs.Arithmetic.{Calculated, Value, TooLarge, BelowZero, Unknown, calculation}
 use Rattle.semantics.specs.Limits.{max_frames, max_records, max_entries, too_large, below_zero, key_taken, no_such_key, stale_reference, too_many_frames, too_many_records, too_many_entries}
 use Rattle.state.specs.declared.Reference.{Reference}
 use Rattle.state.specs.declared.Reference.TheVariants.{Local, Field, Record as Whole}

@@ -21,11 +21,8 @@ unfolding procedure_in names_with count hits
 loop-i-init c = (refl, refl, refl, whole Accepted Refused _ _)
 
 pub returns-in-Some : goal.returns-in-Some
-unfolding type_in procedure_in
 returns-in-Some c =
-    let named-is : c.unwrap_or-named.result ≡ type_in c.args.index (c.row_at-row.result.b / 8) = search rules in
-    let starts-is : c.unwrap_or-starts.result ≡ procedure_in c.args.index c.loop-i.p = search rules in
-    rw c.at.ensures (sym (c.loop-i.invariant.3 ∙ stops_at Accepted Refused _ _ _ _ (omega arith) (c.in-Some.ensures ∙ sym (fault_here _ c.args.index _ _ _ _ _ _ _ c.row_at-row.ensures c.loop-i.invariant.0 c.loop-i.invariant.1 named-is c.loop-i.invariant.2 starts-is))))
+    rw c.at.ensures (sym (c.loop-i.invariant.3 ∙ stops_at Accepted Refused _ _ _ _ (omega arith) (c.in-Some.ensures ∙ sym (fault_here _ c.args.index _ _ _ _ _ _ _ c.row_at-row.ensures c.loop-i.invariant.0 c.loop-i.invariant.1 c.type_in-named.ensures c.loop-i.invariant.2 c.procedure_in-starts.ensures))))
 
 pub counted-y-requires : goal.counted-y-requires
 counted-y-requires c = omega (arith, count-few (is_kind c.args.table.now type_kind) c.loop-i.i)
@@ -34,16 +31,13 @@ pub counted-p-requires : goal.counted-p-requires
 counted-p-requires c = omega (arith, count-few (is_kind c.args.table.now procedure_kind) c.loop-i.i)
 
 pub loop-i-preserved : goal.loop-i-preserved
-unfolding type_in procedure_in
 loop-i-preserved c =
-    let named-is : c.unwrap_or-named.result ≡ type_in c.args.index (c.row_at-row.result.b / 8) = search rules in
-    let starts-is : c.unwrap_or-starts.result ≡ procedure_in c.args.index c.loop-i.p = search rules in
     let e = c.row_at-row.ensures in
     let k = c.loop-i.invariant in (
       c.counted-y.ensures ∙ count_next _ _ _ _ _ e k.0,
       c.counted-p.ensures ∙ count_next _ _ _ _ _ e k.1,
-      own-next c.args.index (eqb c.row_at-row.result.kind procedure_kind) _ _ _ _ c.counted-p.ensures c.next_own-own.ensures starts-is k.2,
-      k.3 ∙ fine Accepted Refused _ _ _ (omega arith) (fault_here _ c.args.index _ _ _ _ _ _ _ e k.0 k.1 named-is k.2 starts-is ∙ sym c.in_default.ensures),
+      own-next c.args.index (eqb c.row_at-row.result.kind procedure_kind) _ _ _ _ c.counted-p.ensures c.next_own-own.ensures c.procedure_in-starts.ensures k.2,
+      k.3 ∙ fine Accepted Refused _ _ _ (omega arith) (fault_here _ c.args.index _ _ _ _ _ _ _ e k.0 k.1 c.type_in-named.ensures k.2 c.procedure_in-starts.ensures ∙ sym c.in_default.ensures),
     )
 
 pub returns : goal.returns

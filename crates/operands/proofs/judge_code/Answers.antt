@@ -10,12 +10,12 @@ loop-i-init c = record { kinds = refl; verdict = verdict_start _ _ _ }
 
 pub returns-in-Some : goal.returns-in-Some
 returns-in-Some c =
-    let h = here _ _ _ _ c.requires c.row_at-row.ensures c.named_type-named.ensures c.named_procedure-callee.ensures c.loop-i.invariant.kinds c.step-stack.ensures c.is_last-last.ensures c.is_foreign.ensures in
+    let h = here _ _ _ _ c.requires c.row_at-row.ensures c.named_type-named.ensures c.procedure_in-callee.ensures c.loop-i.invariant.kinds c.step-stack.ensures c.is_last-last.ensures c.is_foreign.ensures in
     rw c.at.ensures (sym (c.loop-i.invariant.verdict ∙ verdict_refused _ _ _ _ c.loop-i-test.true (h.0 ∙ sym (c.in-Some.ensures _))))
 
 pub loop-i-preserved : goal.loop-i-preserved
 loop-i-preserved c =
-    let h = here _ _ _ _ c.requires c.row_at-row.ensures c.named_type-named.ensures c.named_procedure-callee.ensures c.loop-i.invariant.kinds c.step-stack.ensures c.is_last-last.ensures c.is_foreign.ensures in
+    let h = here _ _ _ _ c.requires c.row_at-row.ensures c.named_type-named.ensures c.procedure_in-callee.ensures c.loop-i.invariant.kinds c.step-stack.ensures c.is_last-last.ensures c.is_foreign.ensures in
     record {
       kinds = c.next-stack.ensures _ ∙ sym h.1;
       verdict = c.loop-i.invariant.verdict ∙ verdict_next _ _ _ c.loop-i-test.true (h.0 ∙ sym (c.in_default.ensures _));

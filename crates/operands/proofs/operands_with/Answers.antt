@@ -1,19 +1,9 @@
-use Rattle.operands.specs.Operands.{operands_with}
 use Rattle.operands.proofs.Laws.{procedures_done, procedure_accepted, procedure_refused}
-use Rattle.declarations.proofs.Laws.{pass_start}
 use Rattle.declarations.specs.Program.{code_of}
 use Rattle.std.proofs.lemmas.Result.{err_from_is_err_and}
 use mathlib.Core.Path.{sym, ◌∙◌}
 use native.Mathlib.Omega.{arith}
 use Rattle.operands.proofs.operands_with.Goals as goal
-
-pub loop-own-init : goal.loop-own-init
-unfolding operands_with
-loop-own-init c = pass_start _ _ _
-
-pub judge_procedure-requires : goal.judge_procedure-requires
-unfolding code_of
-judge_procedure-requires c = c.part-code.ensures.result_value
 
 pub returns-in_err-judge_procedure : goal.returns-in_err-judge_procedure
 unfolding code_of

@@ -15,19 +15,15 @@ unfolding code_verdict
 loop-i-init c = whole Accepted (λ (number j : ℕ). Refused number (_ + j)) _ _
 
 pub returns-then-not-may_call : goal.returns-then-not-may_call
-unfolding procedure_in
 returns-then-not-may_call c =
-    let callee-is : c.unwrap_or-callee.result ≡ procedure_in c.args.index c.row_at-row.result.b = search rules in
-    let fault = call-fault _ _ _ _ _ _ c.row_at-row.ensures _ _ c.if-row-eq-CALL.true callee-is c.may_call.ensures in
-    rw (c.at.ensures, c.from-then-not-may_call.ensures)
+    let fault = call-fault _ _ _ _ _ _ c.row_at-row.ensures _ _ c.if-row-eq-CALL.true c.procedure_in-callee.ensures c.may_call.ensures in
+    rw (c.at.ensures, c.from.ensures)
     (sym (c.loop-i.invariant ∙ faulty_with Accepted (λ (number j : ℕ). Refused number (_ + j)) _ _ _ 22 (omega arith) (fault ∙ rw c.if-not-may_call.true) (λ z. omega arith)))
 
 pub loop-i-preserved : goal.loop-i-preserved
-unfolding procedure_in
 loop-i-preserved c = c.loop-i.invariant ∙ fine Accepted (λ (number j : ℕ). Refused number (_ + j)) _ _ _ (omega arith) (elim c.if-row-eq-CALL.branch [
   | then-row-eq-CALL+else-not-may_call w ↦
-      let callee-is : w.unwrap_or-callee.result ≡ procedure_in c.args.index c.row_at-row.result.b = search rules in
-      call-fault _ _ _ _ _ _ c.row_at-row.ensures _ _ w.if-row-eq-CALL.true callee-is w.may_call.ensures ∙ rw w.if-not-may_call.false
+      call-fault _ _ _ _ _ _ c.row_at-row.ensures _ _ w.if-row-eq-CALL.true w.procedure_in-callee.ensures w.may_call.ensures ∙ rw w.if-not-may_call.false
   | else-row-eq-CALL w ↦ other_fault _ _ _ _ _ _ c.row_at-row.ensures w.if-row-eq-CALL.false
 ])
 

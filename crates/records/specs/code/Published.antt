@@ -1,16 +1,16 @@
 -- MoveTo, MoveFrom, BorrowGlobal and Exists.
 use Rattle.std.specs.Prelude.{ℕ, ◌+◌, ◌-◌, ◌%◌, cond, List, leb, ltb, get_or}
 use Rattle.arithmetic.specs.Arithmetic.{truth}
-use Rattle.semantics.specs.Limits.{key_taken, no_such_key, too_many_entries}
 use Rattle.state.specs.declared.Reference.TheVariants.{Record as Whole}
 use Rattle.state.specs.declared.Operand.{Operand}
 use Rattle.state.specs.declared.Operand.TheVariants.{Empty, Number, Record, Refer}
 use Rattle.state.specs.declared.frames.State.{State}
+use Rattle.state.specs.declared.stops.Stop.TheVariants.{KeyTaken, NoSuchKey, TooManyEntries, Broken}
 use Rattle.state.specs.code.Coding.{first_of, second_of}
 use Rattle.state.specs.code.Layout.{entry_cell}
 use Rattle.state.specs.code.Frames.{top_at, dropped, gone_on}
 use Rattle.state.specs.code.Entries.{last_under, added_in, removed_in}
-use Rattle.frame.specs.code.Turning.{Turning, after, broken, ends, settled}
+use Rattle.frame.specs.code.Turning.{Turning, after, ends, settled}
 use Rattle.frame.specs.code.Operations.{with_number}
 
 abbrev pub with_entries : State → ℕ → State
@@ -30,14 +30,14 @@ reference_at cs i y = Refer (Whole (first_of (get_or cs (entry_cell i + 1) Empty
 -- MoveTo
 abbrev pub published_as : List Operand → State → ℕ → ℕ → ℕ → ℕ → Turning
 published_as cs s y a c m =
-    cond (ltb (found cs s y a) s.entries) (ends cs s key_taken)
-    (cond (leb 64 s.entries) (ends cs s too_many_entries) (after (gone_on (dropped (with_entries s (s.entries + 1)) 2)) (added_in cs s.entries y a c m)))
+    cond (ltb (found cs s y a) s.entries) (ends cs s KeyTaken)
+    (cond (leb 64 s.entries) (ends cs s TooManyEntries) (after (gone_on (dropped (with_entries s (s.entries + 1)) 2)) (added_in cs s.entries y a c m)))
 
 abbrev pub moved_to : List Operand → State → ℕ → ℕ → Operand → Turning
-moved_to cs s y a Empty = ends cs s broken
-moved_to cs s y a (Number n) = ends cs s broken
+moved_to cs s y a Empty = ends cs s Broken
+moved_to cs s y a (Number n) = ends cs s Broken
 moved_to cs s y a (Record c m k) = published_as cs s y a c m
-moved_to cs s y a (Refer r) = ends cs s broken
+moved_to cs s y a (Refer r) = ends cs s Broken
 
 abbrev pub move_to_of : List Operand → State → ℕ → Turning
 move_to_of cs s b = with_number cs s (top_at cs s 0) λ (a : ℕ). moved_to cs s (b % 256) a (top_at cs s 1)
@@ -45,7 +45,7 @@ move_to_of cs s b = with_number cs s (top_at cs s 0) λ (a : ℕ). moved_to cs s
 -- MoveFrom
 abbrev pub taken_out : List Operand → State → ℕ → ℕ → Turning
 taken_out cs s y i =
-    cond (leb s.entries i) (ends cs s no_such_key)
+    cond (leb s.entries i) (ends cs s NoSuchKey)
     (settled (removed_in cs s.entries i) (with_entries s (s.entries - 1)) 1 (record_at cs i y))
 
 abbrev pub move_from_of : List Operand → State → ℕ → Turning
@@ -54,7 +54,7 @@ move_from_of cs s b = with_number cs s (top_at cs s 0) λ (a : ℕ). taken_out c
 -- BorrowGlobal
 abbrev pub global_at : List Operand → State → ℕ → ℕ → Turning
 global_at cs s y i =
-    cond (leb s.entries i) (ends cs s no_such_key)
+    cond (leb s.entries i) (ends cs s NoSuchKey)
     (settled cs s 1 (reference_at cs i y))
 
 abbrev pub global_of : List Operand → State → ℕ → Turning

@@ -1,5 +1,4 @@
 use Rattle.std.proofs.Common.{rules, ◌≡◌, get_or}
-use Rattle.rows.specs.declared.Kind.{Kind}
 use Rattle.rows.proofs.Laws.{kinds, no_rows, kind_asks}
 use Rattle.rows.proofs.kind_of.Goals as goal
 

@@ -1,5 +1,5 @@
 -- A list of calls by the interpreter's account, for any table, index and list.
-use Rattle.std.specs.Prelude.{ℕ, ◌+◌, ◌-◌, Bool, false, cond, Option, List, [], ◌∷◌, ◌++◌, map, eqb, leb, get_or, take, replicate}
+use Rattle.std.specs.Prelude.{ℕ, ◌+◌, ◌-◌, Bool, false, cond, Option, None, List, [], ◌∷◌, ◌++◌, map, eqb, leb, get_or, take, replicate}
 use Rattle.table.specs.declared.index.Index.{Index}
 use Rattle.declarations.specs.Program.{procedure_in}
 use Rattle.judging.specs.code.Files.{has_of, bytes_of}
@@ -10,6 +10,7 @@ use Rattle.semantics.specs.Run.{Ran, run_of}
 use Rattle.state.specs.declared.Operand.{Operand}
 use Rattle.state.specs.declared.Operand.TheVariants.{Empty}
 use Rattle.state.specs.declared.frames.State.{State}
+use Rattle.state.specs.code.Frames.{stop_of}
 use Rattle.state.specs.code.Coding.{number_of}
 use Rattle.state.specs.code.Layout.{all_cells}
 use Rattle.machine.specs.code.Lists.{min_order}
@@ -32,7 +33,7 @@ end_line i stop row results count =
 
 -- before the first call
 abbrev pub start : State
-start = record { serial = 0; procedure = 0; at = 0; depth = 0; height = 0; count = 0; stop = 0; records = 0; frames = 0; entries = 0; rooms = 0; free = 0 }
+start = record { serial = 0; procedure = 0; at = 0; depth = 0; height = 0; count = 0; stop = None; records = 0; frames = 0; entries = 0; rooms = 0; free = 0 }
 
 abbrev pub all_empty : List Operand
 all_empty = replicate all_cells Empty
@@ -49,7 +50,7 @@ store_text cs s = min_order (rooms_in cs) (entries_in cs s.entries)
 unfoldable pub line_of : Index → ℕ → List Operand → State → List ℕ
 line_of ix i cs s =
     let own = procedure_in ix s.procedure in
-    end_line i s.stop (own.code + s.at) (results_in cs s (own.code - own.results)) (own.code - own.results)
+    end_line i (stop_of s) (own.code + s.at) (results_in cs s (own.code - own.results)) (own.code - own.results)
 
 -- in a table with this index
 module _ (t : List ℕ) (ix : Index) where
@@ -57,7 +58,7 @@ module _ (t : List ℕ) (ix : Index) where
   unfoldable pub text_from : ℕ → List Call → Bool → List Operand → List Operand → State → List ℕ
   text_from i [] same cs ks s = store_text cs s
   text_from i (c ∷ calls) same cs ks s = on_turn (call_turn t ix cs (kept_since same ks cs s) s c) λ (ds : List Operand) (z : State).
-      line_of ix i ds z ++ text_from (i + 1) calls (same_restored (same_call t ix cs s c) z.stop) ds (kept_since same ks cs s) z
+      line_of ix i ds z ++ text_from (i + 1) calls (same_restored (same_call t ix cs s c) (stop_of z)) ds (kept_since same ks cs s) z
 
   unfoldable pub text_in : List ℕ → List ℕ
   text_in l = text_from 0 (calls_of l) false all_empty all_empty start

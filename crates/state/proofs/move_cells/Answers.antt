@@ -7,10 +7,10 @@ use Rattle.state.proofs.move_cells.Goals as goal
 
 pub loop-j-init : goal.loop-j-init
 unfolding moved
-loop-j-init c = (omega arith, refl, refl)
+loop-j-init c = (refl, refl)
 
 pub loop-j-preserved : goal.loop-j-preserved
-loop-j-preserved c = (omega arith, search rules, moved_more _ _ _ _ _ _ c.loop-j.invariant.2 c.copy.ensures)
+loop-j-preserved c = (search rules, moved_more _ _ _ _ _ _ c.loop-j.invariant.1 c.copy.ensures)
 
 pub returns : goal.returns
-returns c = let e : c.loop-j.j ≡ c.args.k = omega arith in rw e at c.loop-j.invariant.2
+returns c = let e : c.loop-j.j ≡ c.args.k = omega arith in rw e at c.loop-j.invariant.1

@@ -1,11 +1,7 @@
-use Prim.Native.Nat.{◌-◌, ◌≤◌}
 use mathlib.Core.Path.{◌≡◌}
 use lib.ListN.{length}
 use Rattle.state.specs.code.Cells.{cells_of, moved}
 use Rattle.state.proofs.move_cells.Given as goal
 
 abbrev pub invariant-loop-j : goal.invariant-loop-j
-invariant-loop-j l = (l.j ≤ l.n) × (length l.cells ≡ length l.initial.cells) × (cells_of l.cells ≡ moved (cells_of l.initial.cells) l.to l.from l.j)
-
-abbrev pub decreases-loop-j : goal.decreases-loop-j
-decreases-loop-j l = l.n - l.j
+invariant-loop-j l = (length l.cells ≡ length l.initial.cells) × (cells_of l.cells ≡ moved (cells_of l.initial.cells) l.to l.from l.j)

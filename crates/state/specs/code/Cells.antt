@@ -1,5 +1,5 @@
 -- What the cells of a lent array hold, and what moving and emptying them does: a cell is two numbers, its tag and its word.
-use Rattle.std.specs.Prelude.{ℕ, zero, suc, ◌+◌, ◌*◌, ◌/◌, List, [], ◌∷◌, Bool, false, cond, ltb, eqb, length, get_or, set}
+use Rattle.std.specs.Prelude.{ℕ, Option, Some, None, zero, suc, ◌+◌, ◌*◌, ◌/◌, List, [], ◌∷◌, Bool, false, cond, ltb, eqb, length, get_or, set}
 use Rattle.state.specs.declared.Operand.{Operand}
 use Rattle.state.specs.declared.Operand.TheVariants.{Empty}
 use Rattle.state.specs.code.Coding.{value_of}
@@ -8,6 +8,11 @@ unfoldable pub cells_of : List ℕ → List Operand
 cells_of [] = []
 cells_of (t ∷ []) = []
 cells_of (t ∷ w ∷ ns) = value_of t w ∷ cells_of ns
+
+-- what a cell that was looked for holds
+abbrev pub held_at : List Operand → Option ℕ → Operand
+held_at cs None = Empty
+held_at cs (Some o) = get_or cs o Empty
 
 -- whether cell o has a tag; its word if it has
 abbrev pub has_tag : List ℕ → ℕ → ℕ → Bool

@@ -6,8 +6,9 @@ use Rattle.table.specs.declared.index.ProcedureEntry.{ProcedureEntry}
 use Rattle.declarations.specs.Program.{local_kind, local_count, parameters_end}
 use Rattle.state.specs.declared.Operand.{Operand}
 use Rattle.state.specs.declared.frames.State.{State}
+use Rattle.state.specs.declared.stops.Stop.TheVariants.{Broken}
 use Rattle.state.specs.code.Frames.{gone_to, gone_on}
-use Rattle.frame.specs.code.Turning.{Turning, after, broken, ends}
+use Rattle.frame.specs.code.Turning.{Turning, after, ends}
 use Rattle.frame.specs.code.Operations.{op_of}
 use Rattle.frame.specs.code.Stack.{popped_by, const_of, move_of, copy_of, store_of, borrow_of}
 use Rattle.references.specs.code.Targets.{read_of, write_of, borrow_field_of}
@@ -45,4 +46,4 @@ module _ (b d kind fields parameters count results : ℕ) (cs : List Operand) (s
 
 unfoldable pub turn_of : List ℕ → Row → ProcedureEntry → TypeEntry → ProcedureEntry → List Operand → State → Turning
 turn_of t row own named callee cs s =
-    get_or (turns row.b row.d (local_kind t own row.b) (named.end - (named.row + 1)) (parameters_end t callee - (callee.row + 1)) (local_count callee) (own.code - own.results) cs s) row.a (ends cs s broken)
+    get_or (turns row.b row.d (local_kind t own row.b) (named.end - (named.row + 1)) (parameters_end t callee - (callee.row + 1)) (local_count callee) (own.code - own.results) cs s) row.a (ends cs s Broken)

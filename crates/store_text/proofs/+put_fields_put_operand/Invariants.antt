@@ -1,9 +1,9 @@
 -- The first j of the fields are put. The two end, since the depth falls.
-use Rattle.std.proofs.Common.{ℕ, ◌+◌, ◌*◌, ◌-◌, ◌≤◌, ◌≡◌, List, length}
+use Rattle.std.proofs.Common.{ℕ, ◌+◌, ◌*◌, ◌-◌, List}
 use Rattle.state.specs.code.Cells.{cells_of}
 use Rattle.machine.specs.code.Lists.{mvalues, mfields}
 use Rattle.machine.specs.code.Views.{up_from, rooms_in}
-use Rattle.text.proofs.Placing.{Puts}
+use Rattle.text.specs.code.Placing.{Puts}
 use Rattle.store_text.proofs.+put_fields_put_operand.Given as goal
 
 -- the first j of the fields from cell o + 1 on, of a record at this depth
@@ -17,7 +17,4 @@ abbrev pub decreases-put_operand : goal.decreases-put_operand
 decreases-put_operand l = 2 * l.depth + 1
 
 abbrev pub invariant-put_fields-loop-j : goal.invariant-put_fields-loop-j
-invariant-put_fields-loop-j l = (l.j ≤ l.n) × (length l.text ≡ length l.initial.text) × Puts l.initial.text l.at (first l.cells l.depth l.o l.j) l.text l.end
-
-abbrev pub decreases-put_fields-loop-j : goal.decreases-put_fields-loop-j
-decreases-put_fields-loop-j l = l.n - l.j
+invariant-put_fields-loop-j l = Puts l.initial.writer (first l.cells l.depth l.o l.j) l.writer

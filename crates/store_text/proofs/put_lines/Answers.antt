@@ -1,28 +1,15 @@
-use native.Mathlib.Omega.{arith}
-use borrow.Author.Rules.{rules}
-use mathlib.Core.Path.{refl, ◌∙◌}
-use lib.ListN.{get_or}
-use Rattle.state.specs.code.Cells.{cells_of}
-use Rattle.machine.specs.code.Lists.{mentry_line}
-use Rattle.machine.specs.code.Views.{rooms_in, entry_in}
-use Rattle.text.proofs.Placing.{Puts}
-use Rattle.store_text.proofs.Laws.{lines_more, lines-done}
+use lib.Seq.{take_all}
+use mathlib.Core.Path.{ap}
+use Rattle.text.proofs.Placing.{puts_none, puts_more, puts_same}
+use Rattle.store_text.proofs.Laws.{lines-none, lines_more}
+use Rattle.store_text.proofs.put_lines.Invariants.{lines}
 use Rattle.store_text.proofs.put_lines.Goals as goal
 
 pub loop-i-init : goal.loop-i-init
-loop-i-init c = (refl, refl)
+loop-i-init c = puts_same (lines-none _) (puts_none _)
 
 pub loop-i-preserved : goal.loop-i-preserved
-loop-i-preserved c =
-    let l = c.loop-i in
-    let args = c.args in
-    let cs = cells_of args.cells.now in
-    let line : Puts l.text l.end (mentry_line (rooms_in cs) (entry_in cs (get_or args.numbers.now l.i 0))) c.put_entry-end.new.text c.put_entry-end.result = c.put_entry-end.ensures in
-    (search rules, l.invariant.1 ∙ lines_more (rooms_in cs) cs args.numbers.now l.i _ _ (omega arith) line)
+loop-i-preserved c = puts_same (lines_more _ _ _ _ c.loop-i-test.true) (puts_more c.loop-i.invariant c.put_entry.ensures)
 
 pub returns : goal.returns
-returns c =
-    let l = c.loop-i in
-    let args = c.args in
-    let cs = cells_of args.cells.now in
-    lines-done (rooms_in cs) cs args.numbers.now l.i _ _ _ _ _ (omega arith) l.invariant.1
+returns c = puts_same (ap (lines c.args.cells.now) (take_all _ _ c.loop-i-test.false)) c.loop-i.invariant

@@ -1,15 +1,20 @@
-use Rattle.state.specs.code.Coding.{values, value_of}
+use Prim.Native.Nat.{ℕ}
+use mathlib.Core.Path.{◌≡◌, refl}
+use mathlib.Core.List.{List}
+use Rattle.std.specs.Prelude.{Err}
+use Rattle.state.specs.declared.Operand.{Operand}
+use Rattle.state.specs.declared.frames.State.{State}
+use Rattle.state.specs.declared.stops.Stop.{Stop}
+use Rattle.frame.specs.code.Turning.{ends}
+use Rattle.references.specs.code.Targets.{Target, ToNumber, ToRecord, Stale, Impossible, place_of, read_at}
 use Rattle.references.proofs.targets.read_ref.Goals as goal
 
-pub returns-in-Number : goal.returns-in-Number
-unfolding value_of values
-returns-in-Number c = rw (← c.target_top-x.ensures, c.in-Number.is, ← c.number_at-n.ensures) c.settle.ensures
+-- a reference that leads nowhere is a stop
+nowhere : (cs : List Operand) (s : State) (t : Target) (k : Stop) → Err k ≡ place_of t → ends cs s k ≡ read_at cs s t
+nowhere cs s (ToNumber o) k e = absurd (cc)
+nowhere cs s (ToRecord c m) k e = absurd (cc)
+nowhere cs s Stale k e = cc
+nowhere cs s Impossible k e = cc
 
-pub returns-in-Record : goal.returns-in-Record
-returns-in-Record c = rw (← c.target_top-x.ensures, c.in-Record.is, c.stopped.ensures)
-
-pub returns-in-Stale : goal.returns-in-Stale
-returns-in-Stale c = rw (← c.target_top-x.ensures, c.in-Stale.is, c.stopped-in-Stale.ensures)
-
-pub returns-in-Impossible : goal.returns-in-Impossible
-returns-in-Impossible c = rw (← c.target_top-x.ensures, c.in-Impossible.is, c.stopped-in-Impossible.ensures)
+pub returns-in-Err : goal.returns-in-Err
+returns-in-Err c = rw c.stopped-in-Err.ensures (nowhere _ _ _ _ c.in-Err.ensures)

@@ -6,6 +6,3 @@ use Rattle.state.proofs.rooms.free_room.Given as goal
 
 abbrev pub invariant-loop-r : goal.invariant-loop-r
 invariant-loop-r l = first_free (cells_of l.cells) l.from (128 - l.from) ≡ first_free (cells_of l.cells) l.r (128 - l.r)
-
-abbrev pub decreases-loop-r : goal.decreases-loop-r
-decreases-loop-r l = 128 - l.r
