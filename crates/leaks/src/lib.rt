@@ -102,7 +102,7 @@ fn judge_code(
     let n = code.len() / format::ROW_BYTES;
     for i in 0..n {
         let row = table::row_at(code, i);
-        let callee = entries::procedure_in(index, row.b as usize);
+        let callee = declarations::procedure_in(index, row.b as usize);
         let at = (own.code as usize) + i;
         if let Some(reason) = fault_at(table, nodes, row, own, callee, at) {
             return Err(reason.at(at));
