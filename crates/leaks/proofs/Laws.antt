@@ -12,9 +12,8 @@ use Rattle.table.specs.Verdicts.{Verdict, Accepted}
 use Rattle.table.specs.declared.index.Index.{Index}
 use Rattle.table.specs.declared.index.TypeEntry.{TypeEntry}
 use Rattle.table.specs.declared.index.ProcedureEntry.{ProcedureEntry}
-use Rattle.table.specs.Rows.{row_count, row_at}
+use Rattle.table.specs.Rows.{row_at}
 use Rattle.declarations.specs.Program.{number, number_ref, row_kind, kinds_of, procedure_in, code_of, code_verdict}
-use Rattle.declarations.proofs.Laws.{verdict_of, on_part}
 use Rattle.effects.specs.Effects.{effect_of}
 use Rattle.effects.proofs.Laws.{kinds-none, kinds-first}
 use Rattle.operands.specs.Flow.{effect_in}
@@ -64,18 +63,11 @@ unfolding leak_from effect_in
 fault_is t c ix p seen row callee i part e q h = rw (← part, ← e, ← q) (sym (h _))
 
 -- the verdict on a procedure of a trusted module is that on its code, and any other procedure is accepted
-module _ (t : List ℕ) (ix : Index) (seen : List Bool) (q : ℕ) (p : ProcedureEntry) where
-  pub trusted_verdict :
-      (c : List ℕ) (v : Verdict)
-      → in_trusted t ix p ≡ true
-      → c ≡ code_of t p
-      → v ≡ code_verdict (leak_from t ix p (marked_in seen p)) p.code (row_count c)
-      → verdict_of (read_fault t ix seen) ix t q p ≡ v
+module _ (t : List ℕ) (ix : Index) (seen : List Bool) (q : ℕ) (p : ProcedureEntry) (n : ℕ) where
+  pub trusted_verdict : {v : Verdict} → in_trusted t ix p ≡ true → v ≡ code_verdict (leak_from t ix p (marked_in seen p)) p.code n → v ≡ code_verdict (read_fault t ix seen q p) p.code n
   unfolding read_fault
-  trusted_verdict c v trusted e h =
-      on_part (read_fault t ix seen) ix t c q p v e
-      (h ∙ ap (λ (b : Bool). code_verdict (λ (i : ℕ). cond b (leak_from t ix p (marked_in seen p) i) 0) p.code (row_count c)) (sym trusted))
+  trusted_verdict trusted h = h ∙ ap (λ (b : Bool). code_verdict (λ (i : ℕ). cond b (leak_from t ix p (marked_in seen p) i) 0) p.code n) (sym trusted)
 
-  pub guest_verdict : in_trusted t ix p ≡ false → verdict_of (read_fault t ix seen) ix t q p ≡ Accepted (row_count (code_of t p))
-  unfolding verdict_of read_fault code_verdict
-  guest_verdict guest = clean_all Accepted _ _ (row_count (code_of t p)) (λ j h. rw guest)
+  pub guest_verdict : in_trusted t ix p ≡ false → Accepted n ≡ code_verdict (read_fault t ix seen q p) p.code n
+  unfolding read_fault code_verdict
+  guest_verdict guest = sym (clean_all Accepted _ _ n (λ j h. rw guest))

@@ -4,16 +4,18 @@
 ghost use Rattle.std.specs.Prelude.{◌≡◌, not, ◌&&◌, ◌*◌, ◌≤◌, eqb};
 ghost use Rattle.table.specs.Rows.{row_count};
 ghost use Rattle.table.specs.Index.{index_of};
+ghost use Rattle.table.specs.Verdicts.{fault_of, verdict_of};
 ghost use Rattle.declarations.specs.Program.{number, number_ref, row_kind, kinds_of, code_of, code_verdict, parameter_kinds, result_kinds};
 ghost use Rattle.effects.specs.Effects.{effect_of};
 ghost use Rattle.sizes.specs.code.Formed.{Formed};
 ghost use Rattle.helpers.specs.Tables.{is_private, is_helper};
-ghost use Rattle.leaks.specs.Leaks.{trusted_at, some_marked, leak_from, leak_in, leaks_of};
+ghost use Rattle.leaks.specs.Leaks.{in_trusted, some_marked, leak_from, leak_in, leaks_of};
 ghost use Rattle.leaks.specs.code.Read.{marked_at, marked_in, read_pass};
 
 use entries::RowEntry;
 use table::index::{Index, ProcedureEntry, TypeEntry};
-use table::{Row, Verdict, format, refusals};
+use table::refusals::{Reason, Refusal};
+use table::{Row, format};
 
 // Whether the operand that a row declares, with so many above it, is a writable reference to a number and marked on arriving at row `at`.
 #[tactic(auto, unfolding(crate::specs::code::Read::marked_at))]
@@ -66,7 +68,7 @@ fn returns_mark(table: &[u8], nodes: &[bool], own: ProcedureEntry, at: usize) ->
         && some_marked(table, nodes, at, own.results as usize, own.code as usize)
 }
 
-// The number that the instruction at row `at` earns, or 0. `callee` is the procedure that its operand names; a type that it names does not matter.
+// Why the instruction at row `at` is refused. `callee` is the procedure that its operand names; a type that it names does not matter.
 #[tactic(auto, unfolding(crate::specs::Leaks::leak_in, effects::specs::Effects::effect_of, effects::specs::Effects::effects))]
 fn fault_at(
     table: &[u8],
@@ -75,14 +77,14 @@ fn fault_at(
     own: ProcedureEntry,
     callee: ProcedureEntry,
     at: usize,
-) -> u8
+) -> Option<Reason>
     requires { at ≤ 131072 }
-    ensures { (named : TypeEntry) → result ≡ leak_in (marked_at nodes.now at) row.a (is_helper table.now own callee) (is_private table.now own) (effect_of table.now own named callee row number).takes }
+    ensures { (named : TypeEntry) → fault_of result ≡ leak_in (marked_at nodes.now at) row.a (is_helper table.now own callee) (is_private table.now own) (effect_of table.now own named callee row number).takes }
 {
     match row.a {
-        format::CALL if gives_mark(table, nodes, own, callee, at) => refusals::MARK_GIVEN,
-        format::RET if returns_mark(table, nodes, own, at) => refusals::MARK_RETURNED,
-        _ => 0,
+        format::CALL if gives_mark(table, nodes, own, callee, at) => Some(Reason::MarkGiven),
+        format::RET if returns_mark(table, nodes, own, at) => Some(Reason::MarkReturned),
+        _ => None,
     }
 }
 
@@ -92,69 +94,58 @@ fn judge_code(
     code: &[u8],
     nodes: &[bool],
     own: ProcedureEntry,
-    index: Index,
-) -> Verdict
+    index: &Index,
+) -> Result<usize, Refusal>
     requires { (code.now ≡ code_of table.now own) × (row_count code.now ≤ 65536) }
-    ensures { result ≡ code_verdict (leak_from table.now index own (marked_in nodes.now own)) own.code (row_count code.now) }
+    ensures { verdict_of result ≡ code_verdict (leak_from table.now index.now own (marked_in nodes.now own)) own.code (row_count code.now) }
 {
     let n = code.len() / format::ROW_BYTES;
-    let mut i = 0;
-    while i < n {
+    for i in 0..n {
         let row = table::row_at(code, i);
-        let mut callee = ProcedureEntry::NONE;
-        let called = row.b as usize;
-        if called < format::MAX_PROCEDURES {
-            callee = index.procedure_entries[called];
+        let callee = declarations::procedure_in(index, row.b as usize);
+        let at = (own.code as usize) + i;
+        if let Some(reason) = fault_at(table, nodes, row, own, callee, at) {
+            return Err(reason.at(at));
         }
-        let fault = fault_at(table, nodes, row, own, callee, (own.code as usize) + i);
-        if fault != 0 {
-            return Verdict::Refused(fault, (own.code as usize) + i);
-        }
-        i += 1;
     }
-    Verdict::Accepted(n)
+    Ok(n)
 }
 
-// Whether a module, whose row is `row`, is trusted.
-fn is_trusted(table: &[u8], row: u16) -> bool
-    ensures { result ≡ trusted_at table.now row }
+// Whether a procedure stands in a trusted module.
+#[tactic(auto, unfolding(crate::specs::Leaks::in_trusted))]
+fn is_trusted(table: &[u8], index: &Index, own: ProcedureEntry) -> bool
+    ensures { result ≡ in_trusted table.now index.now own }
 {
+    let row = index
+        .module_rows
+        .get(own.owner as usize)
+        .copied()
+        .unwrap_or(0);
     table::row_at(table, row as usize).a == 1
 }
 
 // The pass over the procedures of trusted modules, by the marks that the search has found.
-fn judge_marks(table: &[u8], nodes: &[bool], index: Index) -> Verdict
-    ensures { result ≡ read_pass table.now index nodes.now }
+fn judge_marks(table: &[u8], nodes: &[bool], index: Index) -> Result<usize, Refusal>
+    ensures { verdict_of result ≡ read_pass table.now index nodes.now }
 {
-    let rows = table.len() / format::ROW_BYTES;
-    let mut p = 0;
-    while p < format::MAX_PROCEDURES {
-        if index.procedures <= p {
-            return Verdict::Accepted(rows);
-        }
-        let own = index.procedure_entries[p];
-        let owner = own.owner as usize;
-        let mut module_row = 0;
-        if owner < format::MAX_MODULES {
-            module_row = index.module_rows[owner];
-        }
-        if is_trusted(table, module_row) {
+    let count = index.procedures.min(format::MAX_PROCEDURES);
+    for own in &index.procedure_entries[..count] {
+        if is_trusted(table, &index, *own) {
             let code = table::procedures::part(table, own.code as usize, own.end as usize);
-            let verdict = judge_code(table, code, nodes, own, index);
-            if let Verdict::Refused(number, row) = verdict {
-                return Verdict::Refused(number, row);
-            }
+            judge_code(table, code, nodes, *own, &index)?;
         }
-        p += 1;
     }
-    Verdict::Accepted(rows)
+    Ok(table.len() / format::ROW_BYTES)
 }
 
 // Judges a table of at most ROWS rows, in room for so many, and NODES nodes. Not inlined: the room of the large one is to be no part of the frame of every judgement.
 #[inline(never)]
-fn judge_in<const ROWS: usize, const NODES: usize>(table: &[u8], index: Index) -> Verdict
+fn judge_in<const ROWS: usize, const NODES: usize>(
+    table: &[u8],
+    index: Index,
+) -> Result<usize, Refusal>
     requires { Formed table.now × (index ≡ index_of table.now) × (row_count table.now ≤ ROWS) × (32 * ROWS ≤ NODES) × (NODES ≤ 65536) }
-    ensures { result ≡ leaks_of table.now }
+    ensures { verdict_of result ≡ leaks_of table.now }
 {
     let n = table.len() / format::ROW_BYTES;
     let mut visited = [false; NODES];
@@ -179,13 +170,13 @@ fn judge_in<const ROWS: usize, const NODES: usize>(table: &[u8], index: Index) -
 
 // The leaks pass over a table that the passes length, rows and names accept, with its own index. Where no mark is made there is no search, and no room for one is cleared;
 // else no more room than the table may need.
-pub fn leaks_with(table: &[u8], index: Index) -> Verdict
+pub fn leaks_with(table: &[u8], index: Index) -> Result<usize, Refusal>
     requires { Formed table.now × (index ≡ index_of table.now) }
-    ensures { result ≡ leaks_of table.now }
+    ensures { verdict_of result ≡ leaks_of table.now }
 {
     let n = table.len() / format::ROW_BYTES;
     if !entries::makes_some(table, index) {
-        Verdict::Accepted(n)
+        Ok(n)
     } else if n <= 256 {
         judge_in::<256, 8192>(table, index)
     } else {
