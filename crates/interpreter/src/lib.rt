@@ -16,7 +16,7 @@ use state::stops::Stop;
 use table::index::{Index, ProcedureEntry};
 use table::{Row, format};
 
-// A state, and whether its entries and rooms are those that are kept.
+// A state, and whether its entries and rooms are those that are kept. No enum: what comes next takes the state whatever the flag says.
 #[derive(Clone, Copy)]
 pub struct Ran {
     pub state: State,
@@ -42,11 +42,8 @@ fn marked_by(left: u64, opcode: u8) -> u64
     ensures { (result / 2 ≡ left / 2) × (eqb (result % 2) 0 ≡ same_by (eqb (left % 2) 0) opcode) }
 {
     match opcode {
-        format::WRITE_REF
-        | format::PACK
-        | format::UNPACK
-        | format::MOVE_TO
-        | format::MOVE_FROM => marked(left),
+        format::WRITE_REF | format::PACK | format::UNPACK | format::MOVE_TO | format::MOVE_FROM =>
+            marked(left),
         _ => left,
     }
 }
@@ -65,6 +62,7 @@ pub fn run(s: State, cells: &mut [u64], table: &[u8], index: Index, budget: u32)
 {
     let mut now = s;
     let mut left: u64 = 2 * (budget as u64);
+    // Not a `for`, which would count in a register of its own: the count and the mark are one number.
     while 2 <= left {
         left -= 2;
         let own = index.procedure_entries[(now.procedure % 128) as usize];

@@ -7,11 +7,12 @@ ghost use Rattle.core.specs.Option.{option_copied};
 ghost use Rattle.table.specs.Verdicts.{verdict_of};
 ghost use Rattle.text.specs.code.Placing.{placed};
 ghost use Rattle.state.specs.code.Cells.{cells_of};
+ghost use Rattle.state.specs.code.Stops.{number_of_stop};
 ghost use Rattle.running.specs.code.Lists.{results_in, end_line, line_of, text_in, run_by};
 
 use interpreter::Ran;
 use state::frames::State;
-use state::stops;
+use state::stops::Stop;
 use table::index::Index;
 use table::format;
 use table::refusals::{Reason, Refusal};
@@ -41,20 +42,21 @@ fn put_end(
     text: &mut [u8],
     at: usize,
     call: usize,
-    stop: u8,
+    stop: Option<Stop>,
     row: usize,
     results: [u64; 4],
     count: usize,
 ) -> usize
-    ensures { (text.new ≡ (placed text.old at (end_line call stop row results count)).buffer) × (result ≡ (placed text.old at (end_line call stop row results count)).end) }
+    ensures { (text.new ≡ (placed text.old at (end_line call (number_of_stop stop) row results count)).buffer) × (result ≡ (placed text.old at (end_line call (number_of_stop stop) row results count)).end) }
 {
-    if stop == stops::DONE {
-        return text::put_done(text, at, call, results, count);
+    let Some(stop) = stop else {
+        return text::put_stop(text, at, call, 0, row);
+    };
+    match stop {
+        Stop::Done => text::put_done(text, at, call, results, count),
+        Stop::Broken => at,
+        _ => text::put_stop(text, at, call, stop.number(), row),
     }
-    if stop == stops::BROKEN {
-        return at;
-    }
-    text::put_stop(text, at, call, stop, row)
 }
 
 // Puts the line of the call that ended in a state.

@@ -1,5 +1,6 @@
 // The machine's state: numbers by value, and cells in a lent array of numbers. A cell is two numbers, a tag and a word (specs/code/Coding); which cell holds
-// what is said in specs/code/Layout.
+// what is said in specs/code/Layout. The state and the cells are two parameters of each function, and no struct: the state is a small value that is handed on
+// in registers, and in a struct behind a reference it would lie in memory.
 #![tactic(auto)]
 
 ghost use Rattle.std.specs.Prelude.{◌≡◌, get_or, set};
@@ -31,7 +32,7 @@ pub enum Operand {
     Refer(Reference),
 }
 
-// The tags of cells.
+// The tags of cells. They are numbers and no enum, since a cell is read as whatever number lies in the lent array: `value_of` and `copy` take each.
 pub const EMPTY: u64 = 0;
 
 pub const NUMBER: u64 = 1;

@@ -14,4 +14,3 @@ given list i = arguments list (i + 1) (row_count list - (i + 1))
 
 abbrev pub invariant-loop-k : goal.invariant-loop-k
 invariant-loop-k l = (length l.cells ≡ length l.initial.cells) × (filled (cells_of l.initial.cells) 16 (given l.list l.i) ≡ filled (cells_of l.cells) (16 + l.k) (drop l.k (given l.list l.i)))
-
