@@ -2,9 +2,8 @@
 // no rule file. Where reading fails no verdict is printed, and the program fails.
 #![tactic(auto)]
 
-ghost use Rattle.std.specs.Prelude.{OnOk};
+ghost use Rattle.std.specs.Prelude.{OnOk, option_copied};
 ghost use Rattle.std.specs.Io.KnownBytes.{Appends};
-ghost use Rattle.core.specs.Option.{option_copied};
 ghost use Rattle.judging.specs.code.Files.{judge_by};
 ghost use Rattle.printing.specs.Lines.{verdict_line};
 
@@ -38,7 +37,7 @@ fn judge_table(rt: &(impl Files + Print), table: &[u8]) -> anyhow::Result<()> {
 
 // Judges the table and prints the verdict.
 fn judge_under<W: Write>(out: &mut W, table: &[u8], rules: Option<&[u8]>) -> io::Result<()>
-    ensures { OnOk result (Appends (W.contents out.old) (W.contents out.new) (verdict_line (judge_by (option_copied rules) table.now))) }
+    ensures { OnOk result (Appends (W.contents out.old) (W.contents out.new) (verdict_line (judge_by (option_copied rules.entry) table.now))) }
 {
     printing::print_verdict(out, judging::judge_under(table, rules))
 }

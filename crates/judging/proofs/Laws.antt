@@ -9,7 +9,7 @@ use Rattle.table.specs.Index.{index_of}
 use Rattle.rows.specs.Rows.{length_of, rows_of, form_of}
 use Rattle.declarations.proofs.Passes.{refused-accepted, both_accept, over_rows}
 use Rattle.names.specs.Names.{names_of, names_with}
-use Rattle.operands.specs.Operands.{operands_of}
+use Rattle.operands.specs.Operands.{operands_of, operands_with}
 use Rattle.locals.specs.Locals.{locals_of}
 use Rattle.locals.specs.code.Within.{locals_within}
 use Rattle.sizes.specs.code.Formed.{Formed}
@@ -67,3 +67,45 @@ by_index pass {t} e q = sym (q ∙ ap (λ (x : Index). pass x t) e)
 
 pub by-locals : (t : List ℕ) {n : ℕ} → form_of t ≡ Accepted n → {ix : Index} {v : Verdict} → ix ≡ index_of t → v ≡ locals_within ix t → locals_of t ≡ v
 by-locals t {n} form own q = sym (locals-within t n (form_rows t form)) ∙ by_index locals_within own q
+
+-- The judge over one index: each pass that accepts leaves the judgement to the later ones, and one that refuses decides it.
+module _ (t : List ℕ) {n : ℕ} (form : Accepted n ≡ form_of t) {ix : Index} (own : ix ≡ index_of t) where
+  pub form-next : judge_of t ≡ in_order (names_of ∷ operands_of ∷ locals_of ∷ leaks_of ∷ []) t
+  form-next = form_accepted t (sym form)
+
+  pub names-refuse : {number row : ℕ} → Refused number row ≡ names_with ix t → Refused number row ≡ judge_of t
+  unfolding names_of
+  names-refuse e = sym (form-next ∙ refused-here names_of _ t (by_index names_with own e))
+
+  module _ {m : ℕ} (names : Accepted m ≡ names_with ix t) where
+    pub names-next : judge_of t ≡ in_order (operands_of ∷ locals_of ∷ leaks_of ∷ []) t
+    unfolding names_of
+    names-next = form-next ∙ accepted-here names_of _ t (by_index names_with own names)
+
+    -- what the leaks pass asks
+    pub leaks-may : Formed t × (ix ≡ index_of t)
+    unfolding names_of
+    leaks-may = (formed t (sym form) (by_index names_with own names), own)
+
+    pub operands-refuse : {number row : ℕ} → Refused number row ≡ operands_with ix t → Refused number row ≡ judge_of t
+    unfolding operands_of
+    operands-refuse e = sym (names-next ∙ refused-here operands_of _ t (by_index operands_with own e))
+
+    module _ {k : ℕ} (operands : Accepted k ≡ operands_with ix t) where
+      pub operands-next : judge_of t ≡ in_order (locals_of ∷ leaks_of ∷ []) t
+      unfolding operands_of
+      operands-next = names-next ∙ accepted-here operands_of _ t (by_index operands_with own operands)
+
+      pub locals-refuse : {number row : ℕ} → Refused number row ≡ locals_within ix t → Refused number row ≡ judge_of t
+      locals-refuse e = sym (operands-next ∙ refused-here locals_of _ t (by-locals t (sym form) own e))
+
+      module _ {j : ℕ} (locals : Accepted j ≡ locals_within ix t) where
+        pub locals-then : judge_of t ≡ in_order (leaks_of ∷ []) t
+        locals-then = operands-next ∙ accepted-here locals_of _ t (by-locals t (sym form) own locals)
+
+        pub leaks-refuse : {number row : ℕ} → Refused number row ≡ leaks_of t → Refused number row ≡ judge_of t
+        leaks-refuse e = sym (locals-then ∙ refused-here leaks_of _ t (sym e))
+
+        pub all-accept : {i : ℕ} → Accepted i ≡ leaks_of t → Accepted (row_count t) ≡ judge_of t
+        unfolding in_order
+        all-accept e = sym (locals-then ∙ accepted-here leaks_of [] t (sym e))

@@ -1,8 +1,7 @@
 // The whole judge.
 #![tactic(auto)]
 
-ghost use Rattle.std.specs.Prelude.{◌≡◌};
-ghost use Rattle.core.specs.Option.{option_copied};
+ghost use Rattle.std.specs.Prelude.{◌≡◌, option_copied};
 ghost use Rattle.table.specs.Verdicts.{verdict_of};
 ghost use Rattle.judging.specs.Judging.{judge_of};
 ghost use Rattle.judging.specs.code.Files.{judge_by};
@@ -27,7 +26,7 @@ pub fn judge_table(table: &[u8]) -> Result<usize, Refusal>
 // Judges a table under a rule file, where there is one. `judge_table` is called in two places, so that it is not inlined: beside other code it takes up to a
 // tenth longer.
 pub fn judge_under(table: &[u8], rules: Option<&[u8]>) -> Result<usize, Refusal>
-    ensures { verdict_of result ≡ judge_by (option_copied rules) table.now }
+    ensures { verdict_of result ≡ judge_by (option_copied rules.entry) table.now }
 {
     let Some(rules) = rules else {
         return judge_table(table);

@@ -2,9 +2,8 @@
 // bytes; a missing rules.bin is no rule file. Where reading fails nothing is printed, and the program fails.
 #![tactic(auto)]
 
-ghost use Rattle.std.specs.Prelude.{OnOk, replicate};
+ghost use Rattle.std.specs.Prelude.{OnOk, replicate, option_copied};
 ghost use Rattle.std.specs.Io.KnownBytes.{Appends};
-ghost use Rattle.core.specs.Option.{option_copied};
 ghost use Rattle.semantics.specs.Run.{min_text};
 ghost use Rattle.running.specs.code.Lists.{run_by};
 ghost use Rattle.printing.specs.Lines.{printed_of};
@@ -48,7 +47,7 @@ fn run_under<W: Write>(
     list: &[u8],
     rules: Option<&[u8]>,
 ) -> io::Result<()>
-    ensures { let ran = run_by (option_copied rules) table.now list.now (replicate min_text 0) in
+    ensures { let ran = run_by (option_copied rules.entry) table.now list.now (replicate min_text 0) in
         OnOk result (Appends (W.contents out.old) (W.contents out.new) (printed_of ran.answer ran.buffer)) }
 {
     let mut text = [0u8; running::MIN_TEXT];

@@ -2,8 +2,7 @@
 // anything run.
 #![tactic(auto)]
 
-ghost use Rattle.std.specs.Prelude.{◌≡◌};
-ghost use Rattle.core.specs.Option.{option_copied};
+ghost use Rattle.std.specs.Prelude.{◌≡◌, option_copied};
 ghost use Rattle.table.specs.Verdicts.{verdict_of};
 ghost use Rattle.text.specs.code.Placing.{placed};
 ghost use Rattle.state.specs.code.Cells.{cells_of};
@@ -112,7 +111,7 @@ pub fn run_list(
     rules: Option<&[u8]>,
     text: &mut [u8],
 ) -> Result<usize, Refusal>
-    ensures { (verdict_of result ≡ (run_by (option_copied rules) table.now list.now text.old).answer) × (text.new ≡ (run_by (option_copied rules) table.now list.now text.old).buffer) }
+    ensures { (verdict_of result ≡ (run_by (option_copied rules.entry) table.now list.now text.old).answer) × (text.new ≡ (run_by (option_copied rules.entry) table.now list.now text.old).buffer) }
 {
     judging::judge_under(table, rules)?;
     let index = table::index::index_of(table);

@@ -1,8 +1,7 @@
 // The functions that a host written in C calls.
 #![tactic(auto)]
 
-ghost use Rattle.std.specs.Prelude.{◌≡◌, ◌<◌};
-ghost use Rattle.core.specs.Option.{option_copied};
+ghost use Rattle.std.specs.Prelude.{◌≡◌, ◌<◌, option_copied};
 ghost use Rattle.table.specs.Verdicts.{value_of, verdict_of};
 ghost use Rattle.semantics.specs.Run.{run_of};
 ghost use Rattle.judging.specs.Judging.{judge_under, answer_of};
