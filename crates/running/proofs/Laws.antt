@@ -11,8 +11,9 @@ use Rattle.table.specs.Rows.{is_kind, row_count, row_at}
 use Rattle.declarations.specs.Program.{procedure_in}
 use Rattle.semantics.specs.Calls.{call_row, arguments, Call, call, calls_from, calls_of}
 use Rattle.calls.proofs.Laws.{call-here, call-not, calls-end}
-use Rattle.text.specs.code.Placing.{placed}
-use Rattle.text.proofs.Placing.{Puts, placed_append}
+use Rattle.text.specs.declared.Writer.{Writer}
+use Rattle.text.specs.code.Placing.{Placed, placed, Puts}
+use Rattle.text.proofs.Placing.{placed_append}
 use Rattle.state.specs.declared.Operand.{Operand}
 use Rattle.state.specs.declared.Operand.TheVariants.{Empty}
 use Rattle.state.specs.declared.frames.State.{State}
@@ -32,10 +33,10 @@ cells_empty zero = refl
 cells_empty (suc n) = let e : 2 * suc n ≡ suc (suc (2 * n)) = omega arith in rw e (ap (λ (cs : List Operand). Empty ∷ cs) (cells_empty n))
 
 -- the line of a call by its parts
-pub line-is : (ix : Index) (i : ℕ) (cs : List Operand) (s : State) (buffer : List ℕ) (at : ℕ) {own : ProcedureEntry} {count : ℕ} {results u : List ℕ} {r : ℕ} → own ≡ procedure_in ix s.procedure
-    → count ≡ own.code - own.results → results ≡ results_in cs s count → Puts buffer at (end_line i (stop_of s) (own.code + s.at) results count) u r → Puts buffer at (line_of ix i cs s) u r
+pub line-is : (ix : Index) (i : ℕ) (cs : List Operand) (s : State) {w v : Writer} {own : ProcedureEntry} {count : ℕ} {results : List ℕ} → own ≡ procedure_in ix s.procedure
+    → count ≡ own.code - own.results → results ≡ results_in cs s count → Puts w (end_line i (stop_of s) (own.code + s.at) results count) v → Puts w (line_of ix i cs s) v
 unfolding line_of
-line-is ix i cs s buffer at o c e p = rw (← o, ← c, ← e) p
+line-is ix i cs s o c e p = rw (← o, ← c, ← e) p
 
 -- a call and the calls after it, a row that is no call, and the end of the list
 module _ (t : List ℕ) (ix : Index) (l : List ℕ) where
@@ -47,23 +48,27 @@ module _ (t : List ℕ) (ix : Index) (l : List ℕ) where
   abbrev pub call_at : ℕ → Call
   call_at i = call (row_at l i).b (row_at l i).c (arguments l (i + 1) (row_count l - (i + 1)))
 
-  module _ (buffer : List ℕ) (at i k : ℕ) (same : Bool) (cs ks : List Operand) (s : State) where
-    pub text_call : {s' : State} {same' : Bool} {ds ls : List Operand} {u : List ℕ} {r : ℕ} → i < row_count l → is_kind l call_row i ≡ true
+  -- what a writer puts from row i on
+  abbrev pub left : Writer → ℕ → ℕ → Bool → List Operand → List Operand → State → Placed
+  left w i k same cs ks s = placed w.text.now w.end (text_at i k same cs ks s)
+
+  module _ (w : Writer) (i k : ℕ) (same : Bool) (cs ks : List Operand) (s : State) where
+    pub text_call : {s' : State} {same' : Bool} {ds ls : List Operand} {v : Writer} → i < row_count l → is_kind l call_row i ≡ true
         → (after s' ds ≡ call_turn t ix cs (kept_since same ks cs s) s (call_at i)) × (same' ≡ same_restored (same_call t ix cs s (call_at i)) (stop_of s')) × (ls ≡ kept_since same ks cs s)
-        → Puts buffer at (line_of ix k ds s') u r → placed buffer at (text_at i k same cs ks s) ≡ placed u r (text_at (i + 1) (k + 1) same' ds ls s')
+        → Puts w (line_of ix k ds s') v → left w i k same cs ks s ≡ left v (i + 1) (k + 1) same' ds ls s'
     unfolding text_from
     text_call {s'} {same'} {ds} {ls} h q e p =
-        rw (call-here l i (row_count l) h q, ← e.0, ← e.1, ← e.2) (placed_append buffer at (line_of ix k ds s') (text_at (i + 1) (k + 1) same' ds ls s') ∙ rw (p.0, p.1) refl)
+        rw (call-here l i (row_count l) h q, ← e.0, ← e.1, ← e.2) (placed_append w.text.now w.end (line_of ix k ds s') (text_at (i + 1) (k + 1) same' ds ls s') ∙ rw (p.text, p.end) refl)
 
-    pub text_other : i < row_count l → is_kind l call_row i ≡ false → placed buffer at (text_at i k same cs ks s) ≡ placed buffer at (text_at (i + 1) k same cs ks s)
+    pub text_other : i < row_count l → is_kind l call_row i ≡ false → left w i k same cs ks s ≡ left w (i + 1) k same cs ks s
     text_other h q = rw (call-not l i (row_count l) h q) refl
 
-    pub text_done : (first : List ℕ) {u : List ℕ} {r : ℕ} → row_count l ≤ i → placed first 0 (text_in t ix l) ≡ placed buffer at (text_at i k same cs ks s)
-        → Puts buffer at (min_order (rooms_in cs) (entries_in cs s.entries)) u r → Puts first 0 (text_in t ix l) u r
+    pub text_done : (first : List ℕ) {v : Writer} → row_count l ≤ i → placed first 0 (text_in t ix l) ≡ left w i k same cs ks s
+        → Puts w (min_order (rooms_in cs) (entries_in cs s.entries)) v → (v.text.now ≡ (placed first 0 (text_in t ix l)).buffer) × (v.end ≡ (placed first 0 (text_in t ix l)).end)
     unfolding text_from store_text
     text_done first h e p =
         let q : text_at i k same cs ks s ≡ store_text cs s = rw (calls-end l i (row_count l) h) refl in
-        rw (e, q) p
+        rw (e, q) (p.text, p.end)
 
   pub text_start : text_in t ix l ≡ text_at 0 0 false (cells_of (replicate 3648 0)) (cells_of (replicate 3648 0)) start
   unfolding text_in calls_of

@@ -15,7 +15,8 @@ use Rattle.semantics.specs.Calls.{list_of}
 use Rattle.semantics.specs.Text.{text_of}
 use Rattle.semantics.specs.Run.{min_text, buffer_of, history_of, answer_with, run_of}
 use Rattle.semantics.proofs.Lengths.{text_fits}
-use Rattle.text.proofs.Placing.{Puts, placed_fits}
+use Rattle.text.specs.code.Placing.{placed}
+use Rattle.text.proofs.Placing.{placed_fits}
 use Rattle.running.specs.code.Lists.{text_in}
 use Rattle.running.proofs.Follows.{text_is}
 
@@ -45,7 +46,7 @@ module _ (has : ℕ) (r t l buffer : List ℕ) where
     unfolding run_of answer_with buffer_of
     buffer-refused h = rw (e, listed, lt-ltb (length buffer) min_text h) (refl, refl)
 
-    pub runs : Bytes t → Bytes l → min_text ≤ length buffer → {after : List ℕ} {size : ℕ} → Puts buffer 0 (text_in t ix l) after size → Runs (Accepted size) after
+    pub runs : Bytes t → Bytes l → min_text ≤ length buffer → {after : List ℕ} {size : ℕ} → (after ≡ (placed buffer 0 (text_in t ix l)).buffer) × (size ≡ (placed buffer 0 (text_in t ix l)).end) → Runs (Accepted size) after
     unfolding run_of answer_with buffer_of
     runs bt bl h p =
         let same : text_in t ix l ≡ text_of (history_of t l) = rw q (text_is t l n k bt bl (under_accepts has r t n e) listed) in

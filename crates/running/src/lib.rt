@@ -4,7 +4,7 @@
 
 ghost use Rattle.std.specs.Prelude.{◌≡◌, option_copied};
 ghost use Rattle.table.specs.Verdicts.{verdict_of};
-ghost use Rattle.text.specs.code.Placing.{placed};
+ghost use Rattle.text.specs.code.Placing.{placed, Puts};
 ghost use Rattle.state.specs.code.Cells.{cells_of};
 ghost use Rattle.state.specs.code.Stops.{number_of_stop};
 ghost use Rattle.running.specs.code.Lists.{results_in, end_line, line_of, text_in, run_by};
@@ -15,6 +15,7 @@ use state::stops::Stop;
 use table::index::Index;
 use table::format;
 use table::refusals::{Reason, Refusal};
+use text::Writer;
 
 // The shortest buffer for a text.
 pub const MIN_TEXT: usize = 65536;
@@ -38,42 +39,35 @@ fn results_of(s: State, cells: &[u64], k: usize) -> [u64; 4]
 
 // Puts the line of a call that ended so: it is done with its results, or it stopped at a row.
 fn put_end(
-    text: &mut [u8],
-    at: usize,
+    writer: &mut Writer<'_>,
     call: usize,
     stop: Option<Stop>,
     row: usize,
     results: [u64; 4],
     count: usize,
-) -> usize
-    ensures { (text.new ≡ (placed text.old at (end_line call (number_of_stop stop) row results count)).buffer) × (result ≡ (placed text.old at (end_line call (number_of_stop stop) row results count)).end) }
+)
+    ensures { Puts writer.old (end_line call (number_of_stop stop) row results count) writer.new }
 {
     let Some(stop) = stop else {
-        return text::put_stop(text, at, call, 0, row);
+        writer.put_stop(call, 0, row);
+        return;
     };
     match stop {
-        Stop::Done => text::put_done(text, at, call, results, count),
-        Stop::Broken => at,
-        _ => text::put_stop(text, at, call, stop.number(), row),
+        Stop::Done => writer.put_done(call, &results[..count.min(4)]),
+        Stop::Broken => {}
+        _ => writer.put_stop(call, stop.number(), row),
     }
 }
 
 // Puts the line of the call that ended in a state.
-fn put_call(text: &mut [u8], at: usize, call: usize, s: State, cells: &[u64], index: Index) -> usize
-    ensures { (text.new ≡ (placed text.old at (line_of index call (cells_of cells.now) s)).buffer) × (result ≡ (placed text.old at (line_of index call (cells_of cells.now) s)).end) }
+fn put_call(writer: &mut Writer<'_>, call: usize, s: State, cells: &[u64], index: Index)
+    ensures { Puts writer.old (line_of index call (cells_of cells.now) s) writer.new }
 {
     let own = declarations::procedure_in(&index, s.procedure as usize);
     let count = steps::results_of(own) as usize;
     let results = results_of(s, cells, count);
-    put_end(
-        text,
-        at,
-        call,
-        s.stop,
-        (own.code as usize) + (s.at as usize),
-        results,
-        count,
-    )
+    let row = (own.code as usize) + (s.at as usize);
+    put_end(writer, call, s.stop, row, results, count);
 }
 
 // Runs the calls of a list over a table and puts their text; the place after it.
@@ -87,20 +81,17 @@ fn run_calls(table: &[u8], list: &[u8], index: Index, text: &mut [u8]) -> usize
         state: State::START,
         same: false,
     };
-    let mut end: usize = 0;
+    let mut writer = Writer { text, end: 0 };
     let mut call: usize = 0;
-    let mut i: usize = 0;
-    while i < rows {
+    for i in 0..rows {
         if table::kind_at(list, i) == calls::CALL {
             last = interpreter::call(last, &mut cells, &mut saved, table, index, list, i);
-            end = put_call(text, end, call, last.state, &cells, index);
+            put_call(&mut writer, call, last.state, &cells, index);
             call += 1;
-            i += 1;
-        } else {
-            i += 1;
         }
     }
-    store_text::put_entries(text, end, &cells, last.state.entries)
+    store_text::put_entries(&mut writer, &cells, last.state.entries);
+    writer.end
 }
 
 // Judges the table, under the rule file where there is one, then the list, then the buffer, and runs the calls: a refusal, or the length of the text, which

@@ -1,7 +1,7 @@
 -- As many numbers are lent as there are entries to print: their lines in order are those of the entries in order.
 use native.Mathlib.Omega.{arith}
 use Prim.Native.Nat.{ℕ, ◌<◌}
-use mathlib.Core.Path.{◌≡◌, sym}
+use mathlib.Core.Path.{◌≡◌}
 use lib.ListN.{length, take, replicate}
 use lib.Seq.{length-take-le}
 use Rattle.store_text.proofs.Sorting.{entries-in-order}

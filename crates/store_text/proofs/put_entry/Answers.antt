@@ -1,5 +1,4 @@
 -- The parts of the line, one after the other.
-use Rattle.std.proofs.Common.{sym}
 use mathlib.Core.Path.{◌∙◌}
 use Rattle.semantics.specs.Ascii.{ascii}
 use Rattle.store_text.proofs.Laws.{entry-line}

@@ -1,6 +1,5 @@
 -- The space and the parenthesis, and then the type.
 use Rattle.semantics.specs.Ascii.{ascii}
-use Rattle.semantics.specs.Text.{decimal}
 use Rattle.text.proofs.Placing.{puts_more}
 use Rattle.store_text.proofs.put_type.Goals as goal
 
