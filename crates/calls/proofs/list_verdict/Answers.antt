@@ -22,7 +22,7 @@ unfolding list_of
 loop-i-init c = rw (le-ltb _ _ c.if-list-gt-MAX_LIST_BYTES.false, c.if-list-ne0.false) (whole Accepted Refused _ _)
 
 pub returns-in-Some : goal.returns-in-Some
-returns-in-Some c = rw c.at.ensures (sym (c.loop-i.invariant ∙ stops_at Accepted Refused _ _ _ _ (omega arith) c.in-Some.ensures))
+returns-in-Some c = rw c.at-in-Some.ensures (sym (c.loop-i.invariant ∙ stops_at Accepted Refused _ _ _ _ (omega arith) c.in-Some.ensures))
 
 pub loop-i-preserved : goal.loop-i-preserved
 loop-i-preserved c = c.loop-i.invariant ∙ fine Accepted Refused _ _ _ (omega arith) (sym c.in_default.ensures)
