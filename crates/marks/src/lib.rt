@@ -195,7 +195,8 @@ fn visit_results(
     let mut at = start;
     while 0 < at {
         let row = at - 1;
-        if arrives[row] {
+        let arrived = arrives[row];
+        if arrived {
             search.visit(32 * (row + 1) + (16 + (results - 1 - r)));
         }
         at = before[row] as usize;
@@ -266,7 +267,8 @@ fn visit_made(
     let n = table.len() / format::ROW_BYTES;
     for r in (0..n).rev() {
         let row = table::row_at(table, r);
-        if arrives[r] && row.a == format::BORROW_FLD && entries::makes_mark(table, index, r) {
+        let arrived = arrives[r];
+        if arrived && row.a == format::BORROW_FLD && entries::makes_mark(table, index, r) {
             visit_next(search, row, r, entries[r].base, 32, 16);
         }
     }
