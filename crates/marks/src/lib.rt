@@ -175,17 +175,19 @@ fn expand_code(search: &mut Traversal<'_>, row: Row, at: usize, entry: RowEntry,
     visit_sent(search, row, entry, x);
 }
 
+// Call sites: for each row that calls, the row before it that calls the same procedure, plus one, and 0 for none; and which rows walks arrive at.
+#[derive(Clone, Copy)]
+struct Sites<'a> {
+    before: &'a [u16],
+    arrives: &'a [bool],
+    ghost sized: { (length arrives.now ≡ length before.now) × (length before.now ≤ 65535) },
+    ghost falls: { (k : ℕ) → get_or before.now k 0 ≤ k },
+}
+
 // Visits what a marked result r is pushed as, at each call site that walks arrive at: `start` is the last one, kept.
-fn visit_results(
-    search: &mut Traversal<'_>,
-    before: &[u16],
-    arrives: &[bool],
-    results: u16,
-    start: usize,
-    r: usize,
-)
-    requires { (length arrives.now ≡ length before.now) × (start ≤ length before.now) × (length before.now ≤ 65535) × ((k : ℕ) → get_or before.now k 0 ≤ k) }
-    ensures visits { state search.new ≡ visit_all (state search.old) (result_edges before.now arrives.now results start r) }
+fn visit_results(search: &mut Traversal<'_>, sites: Sites<'_>, results: u16, start: usize, r: usize)
+    requires { start ≤ length sites.before.now }
+    ensures visits { state search.new ≡ visit_all (state search.old) (result_edges sites.entry.before.now sites.entry.arrives.now results start r) }
     ensures same_slices { SameSlices search.old search.new }
 {
     let results = results as usize;
@@ -195,10 +197,11 @@ fn visit_results(
     let mut at = start;
     while 0 < at {
         let row = at - 1;
-        if arrives[row] {
+        let arrived = sites.arrives[row];
+        if arrived {
             search.visit(32 * (row + 1) + (16 + (results - 1 - r)));
         }
-        at = before[row] as usize;
+        at = sites.before[row] as usize;
     }
 }
 
@@ -206,18 +209,17 @@ fn visit_results(
 #[tactic(auto, using(crate::proofs::Laws::head_given, crate::proofs::Laws::head_past, crate::proofs::Laws::head_result))]
 fn expand_head(
     search: &mut Traversal<'_>,
-    before: &[u16],
-    arrives: &[bool],
+    sites: Sites<'_>,
     entry: RowEntry,
     start: usize,
     x: usize,
 )
-    requires { (length arrives.now ≡ length before.now) × (start ≤ length before.now) × (length before.now ≤ 65535) × (x < 32) × ((k : ℕ) → get_or before.now k 0 ≤ k) }
-    ensures visits { state search.new ≡ visit_all (state search.old) (head_edges before.now arrives.now entry.takes entry.gives entry.base start x) }
+    requires { (start ≤ length sites.before.now) × (x < 32) }
+    ensures visits { state search.new ≡ visit_all (state search.old) (head_edges sites.entry.before.now sites.entry.arrives.now entry.takes entry.gives entry.base start x) }
     ensures same_slices { SameSlices search.old search.new }
 {
     if 16 <= x {
-        visit_results(search, before, arrives, entry.gives, start, x - 16);
+        visit_results(search, sites, entry.gives, start, x - 16);
     } else if x < entry.takes as usize {
         search.visit(32 * (entry.base as usize) + x);
     }
@@ -229,14 +231,13 @@ fn expand(
     search: &mut Traversal<'_>,
     table: &[u8],
     entries: &[RowEntry],
-    before: &[u16],
+    sites: Sites<'_>,
     last: &[u16],
-    arrives: &[bool],
     r: usize,
     x: usize,
 )
-    requires { (r < length entries.now) × (r ≤ 65535) × (x < 32) × (length arrives.now ≡ length before.now) × (length before.now ≤ 65535) × ((k : ℕ) → get_or before.now k 0 ≤ k) × ((q : ℕ) → get_or last.now q 0 ≤ length before.now) }
-    ensures visits { state search.new ≡ visit_all (state search.old) (place_edges table.now entries.now before.now last.now arrives.now r x) }
+    requires { (r < length entries.now) × (r ≤ 65535) × (x < 32) × ((q : ℕ) → get_or last.now q 0 ≤ length sites.before.now) }
+    ensures visits { state search.new ≡ visit_all (state search.old) (place_edges table.now entries.now sites.entry.before.now last.now sites.entry.arrives.now r x) }
     ensures same_slices { SameSlices search.old search.new }
 {
     let row = table::row_at(table, r);
@@ -244,7 +245,7 @@ fn expand(
     match row.kind {
         format::PROCEDURE => {
             let start = last.get(entry.sends as usize).copied().unwrap_or(0);
-            expand_head(search, before, arrives, entry, start as usize, x);
+            expand_head(search, sites, entry, start as usize, x);
         }
         format::INSTRUCTION => expand_code(search, row, r, entry, x),
         _ => {}
@@ -266,7 +267,8 @@ fn visit_made(
     let n = table.len() / format::ROW_BYTES;
     for r in (0..n).rev() {
         let row = table::row_at(table, r);
-        if arrives[r] && row.a == format::BORROW_FLD && entries::makes_mark(table, index, r) {
+        let arrived = arrives[r];
+        if arrived && row.a == format::BORROW_FLD && entries::makes_mark(table, index, r) {
             visit_next(search, row, r, entries[r].base, 32, 16);
         }
     }
@@ -279,33 +281,23 @@ fn search(
     table: &[u8],
     index: Index,
     entries: &[RowEntry],
-    before: &[u16],
+    sites: Sites<'_>,
     last: &[u16],
-    arrives: &[bool],
 )
-    requires { (visited.old ≡ replicate (32 * row_count table.now) false) × (32 * row_count table.now ≤ length queue.old) × (row_count table.now ≤ 2048) × (length entries.now ≡ row_count table.now) × (length before.now ≡ row_count table.now) × (length arrives.now ≡ row_count table.now) × ((k : ℕ) → get_or before.now k 0 ≤ k) × ((q : ℕ) → get_or last.now q 0 ≤ row_count table.now) × Inside (edges table.now entries.now before.now last.now arrives.now) (32 * row_count table.now) × ((v : ℕ) → Mem v (up_to (made_at table.now index entries.now arrives.now) (row_count table.now)) → v < 32 * row_count table.now) }
-    ensures { visited.new ≡ iter (edges table.now entries.now before.now last.now arrives.now) (32 * row_count table.now) (mark (replicate (32 * row_count table.now) false) (up_to (made_at table.now index entries.now arrives.now) (row_count table.now))) }
+    requires { (visited.old ≡ replicate (32 * row_count table.now) false) × (32 * row_count table.now ≤ length queue.old) × (row_count table.now ≤ 2048) × (length entries.now ≡ row_count table.now) × (length sites.before.now ≡ row_count table.now) × ((q : ℕ) → get_or last.now q 0 ≤ row_count table.now) × Inside (edges table.now entries.now sites.before.now last.now sites.arrives.now) (32 * row_count table.now) × ((v : ℕ) → Mem v (up_to (made_at table.now index entries.now sites.arrives.now) (row_count table.now)) → v < 32 * row_count table.now) }
+    ensures { visited.new ≡ iter (edges table.now entries.now sites.entry.before.now last.now sites.entry.arrives.now) (32 * row_count table.now) (mark (replicate (32 * row_count table.now) false) (up_to (made_at table.now index entries.now sites.entry.arrives.now) (row_count table.now))) }
 {
     let mut search = Traversal {
         visited,
         queue,
         tail: 0,
     };
-    visit_made(&mut search, table, index, entries, arrives);
+    visit_made(&mut search, table, index, entries, sites.arrives);
     let mut head = 0;
     while head < search.tail {
         let u = search.queue[head] as usize;
         head += 1;
-        expand(
-            &mut search,
-            table,
-            entries,
-            before,
-            last,
-            arrives,
-            u / 32,
-            u % 32,
-        );
+        expand(&mut search, table, entries, sites, last, u / 32, u % 32);
     }
 }
 
@@ -327,5 +319,6 @@ pub fn find(
     entries::fill(table, index, entries);
     entries::link(entries, last, before);
     find_arrivals(arrives, queue, table, entries);
-    search(visited, queue, table, index, entries, before, last, arrives);
+    let sites = Sites { before, arrives };
+    search(visited, queue, table, index, entries, sites, last);
 }

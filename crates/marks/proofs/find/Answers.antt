@@ -1,6 +1,6 @@
 -- What each part of the search asks of the one before it, from the ties of the arrays to the graph.
 use Prim.Native.Nat.{ℕ, zero, suc, ◌/◌}
-use mathlib.Core.Path.{◌≡◌, refl, ap, ◌∙◌}
+use mathlib.Core.Path.{◌≡◌, refl, sym, ap, ◌∙◌}
 use mathlib.Core.List.{List}
 use native.Mathlib.Omega.{arith}
 use lib.ListN.{length, get_or, replicate, length-replicate}
@@ -37,6 +37,15 @@ find_arrivals-requires c =
     let filled = rw P.1 at c.fill.ensures in
     (P.7, omega (arith, P.3), omega (arith, P.4), Inside.rows_few _ P.0, rows_inside' _ P.0 filled, firsts_below _ P.0 filled)
 
+pub invariant_of-sites : goal.invariant_of-sites
+unfolding layout_of
+invariant_of-sites c =
+    let P = c.requires in
+    let filled = rw P.1 at c.fill.ensures in
+    let come = c.find_arrivals.ensures ∙ arrived_tied _ P.0 filled in
+    let befores = c.link.auto.before ∙ zeros _ P.5 in
+    record { sized = (ap length come ∙ length_arrived _ _ ∙ sym befores, omega (arith, befores, Inside.rows_few _ P.0)); falls = c.link.ensures.1 }
+
 pub search-requires : goal.search-requires
 unfolding layout_of
 search-requires c =
@@ -50,8 +59,6 @@ search-requires c =
       Inside.rows_few _ P.0,
       c.fill.auto.entries ∙ P.4,
       c.link.auto.before ∙ zeros _ P.5,
-      ap length come ∙ length_arrived _ _,
-      L.1,
       λ q. omega (arith, L.2 q, P.4),
       edges-inside _ P.0 filled linked (c.link.auto.last ∙ zeros _ P.6) (c.link.auto.before ∙ zeros _ P.5) come,
       rw P.1 (made-below _ P.0 filled come),

@@ -1,5 +1,5 @@
 use Prim.Native.Nat.{◌/◌, ◌<◌}
-use mathlib.Core.Path.{refl, sym, ◌∙◌}
+use mathlib.Core.Path.{refl, ◌∙◌}
 use native.Mathlib.Omega.{arith}
 use borrow.Author.Rules.{rules}
 use lib.ListN.{get_or}
@@ -9,7 +9,7 @@ use Rattle.marks.proofs.Laws.{stands_first, stands_tail, stands_room, stands_que
 use Rattle.marks.proofs.search.Goals as goal
 
 pub loop-head-init : goal.loop-head-init
-loop-head-init c = let e = c.requires in (stands_first _ _ _ _ _ e.0 e.1 (omega arith) e.9 c.visit_made.ensures.visits, (refl, refl))
+loop-head-init c = let e = c.requires in (stands_first _ _ _ _ _ e.0 e.1 (omega arith) e.7 c.visit_made.ensures.visits, (refl, refl))
 
 pub offset_bounds-search-head : goal.offset_bounds-search-head
 offset_bounds-search-head c = omega (arith, stands_tail _ _ _ c.loop-head.invariant.0)
@@ -26,7 +26,7 @@ expand-requires c =
     let u = get_or c.loop-head.search.queue.now c.loop-head.head 0 in
     let h = stands_queued _ _ _ c.loop-head.invariant.0 c.loop-head-test.true in
     let r : u / 32 < row_count c.args.table.now = omega (arith, h) in
-    (omega (arith, e.3), omega (arith, e.2), omega arith, e.5 ∙ sym e.4, omega (arith, e.4, e.2), e.6, λ q. omega (arith, e.7 q, e.4))
+    (omega (arith, e.3), omega (arith, e.2), omega arith, λ q. omega (arith, e.5 q, e.4))
 
 pub loop-head-smaller : goal.loop-head-smaller
 loop-head-smaller c = omega (arith, stands_tail _ _ _ c.loop-head.invariant.0)
@@ -37,7 +37,7 @@ loop-head-preserved c =
     let e = c.requires in
     let v = c.expand.ensures in
     let same = c.loop-head.invariant.1 in
-    (stands_next _ _ _ c.loop-head.invariant.0 e.8 (omega (arith, e.2)) c.loop-head-test.true v.visits, (v.same_slices.0 ∙ same.0, v.same_slices.1 ∙ same.1))
+    (stands_next _ _ _ c.loop-head.invariant.0 e.6 (omega (arith, e.2)) c.loop-head-test.true v.visits, (v.same_slices.0 ∙ same.0, v.same_slices.1 ∙ same.1))
 
 pub returns : goal.returns
 returns c = let done = stands_done _ _ _ c.loop-head.invariant.0 (omega arith) in search (rules, done)
