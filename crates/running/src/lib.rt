@@ -6,7 +6,6 @@ ghost use Rattle.std.specs.Prelude.{◌≡◌};
 ghost use Rattle.semantics.specs.Run.{run_of};
 ghost use Rattle.text.specs.code.Placing.{placed};
 ghost use Rattle.state.specs.code.Cells.{cells_of};
-ghost use Rattle.state.specs.code.Stops.{number_of_stop};
 ghost use Rattle.running.specs.code.Lists.{results_in, end_line, line_of, text_in};
 
 use interpreter::Ran;
@@ -42,21 +41,20 @@ fn put_end(
     text: &mut [u8],
     at: usize,
     call: usize,
-    stop: Option<Stop>,
+    stop: u8,
     row: usize,
     results: [u64; 4],
     count: usize,
 ) -> usize
-    ensures { (text.new ≡ (placed text.old at (end_line call (number_of_stop stop) row results count)).buffer) × (result ≡ (placed text.old at (end_line call (number_of_stop stop) row results count)).end) }
+    ensures { (text.new ≡ (placed text.old at (end_line call stop row results count)).buffer) × (result ≡ (placed text.old at (end_line call stop row results count)).end) }
 {
-    let Some(stop) = stop else {
-        return text::put_stop(text, at, call, 0, row);
-    };
-    match stop {
-        Stop::Done => text::put_done(text, at, call, results, count),
-        Stop::Broken => at,
-        _ => text::put_stop(text, at, call, stop.number(), row),
+    if stop == Stop::Done.number() {
+        return text::put_done(text, at, call, results, count);
     }
+    if stop == Stop::Broken.number() {
+        return at;
+    }
+    text::put_stop(text, at, call, stop, row)
 }
 
 // Puts the line of the call that ended in a state.
