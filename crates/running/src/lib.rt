@@ -37,6 +37,7 @@ fn results_of(s: State, cells: &[u64], k: usize) -> [u64; 4]
 }
 
 // Puts the line of a call that ended so: it is done with its results, or it stopped at a row.
+#[tactic(auto, unfolding(crate::specs::code::Lists::end_line))]
 fn put_end(
     text: &mut [u8],
     at: usize,
