@@ -14,6 +14,7 @@ use Rattle.semantics.specs.Limits.{too_many_frames}
 use Rattle.state.specs.declared.Operand.{Operand}
 use Rattle.state.specs.declared.Operand.TheVariants.{Empty, Number, Record, Refer}
 use Rattle.state.specs.declared.frames.State.{State}
+use Rattle.state.specs.declared.stops.Stop.TheVariants.{Done, TooManyFrames, Broken}
 use Rattle.state.specs.code.Coding.{number_of, second_of, third_of}
 use Rattle.state.specs.code.Layout.{operand_cell, local_cell, suspended_cell, room_cell, all_cells}
 use Rattle.state.specs.code.Frames.{next_serial, top_at, dropped, gone_to, gone_on, suspended_in, resumed_at, entered_in, received, received_in}
@@ -71,10 +72,10 @@ module _ (cs : List Operand) (s : State) (st : Stands cs s) where
       either false = goes_kept cs s st cs (same_refl cs 512 1824) _ _ refl
 
       go : (x : Operand) → Kept cs s (after (branched_by s b x) cs)
-      go Empty = ends-kept cs s _
+      go Empty = ends-kept cs s Broken
       go (Number n) = either (eqb n 0)
-      go (Record a c y) = ends-kept cs s _
-      go (Refer r) = ends-kept cs s _
+      go (Record a c y) = ends-kept cs s Broken
+      go (Refer r) = ends-kept cs s Broken
 
   -- Call
   module _ (k count : ℕ) (enough : k ≤ s.height) (few : k ≤ count) (most : count ≤ 16) where
@@ -136,7 +137,7 @@ module _ (cs : List Operand) (s : State) (st : Stands cs s) where
       where
         go : Dec (s.depth < 15) → Kept cs s (called_in cs s b k count)
         go (yes deep) = rw (lt-leb 15 s.depth deep) (kept cs ds s _ (length-entered es caller k count ∙ length_suspended cs caller) (λ r l. call_high deep (room_cell r) (omega arith) (omega arith)) refl refl (omega arith) (next_low s.frames))
-        go (no deep) = rw (le-leb 15 s.depth (omega arith)) (ends-kept cs s _)
+        go (no deep) = rw (le-leb 15 s.depth (omega arith)) (ends-kept cs s TooManyFrames)
 
   -- Ret to the frame at depth d
   module _ (k d : ℕ) (e : s.depth ≡ suc d) (fits : second_of (get_or cs (suspended_cell d) Empty) + k ≤ 16) where
@@ -187,7 +188,7 @@ module _ (cs : List Operand) (s : State) (st : Stands cs s) where
   ret-kept k enough fits = go s.depth refl
     where
       go : (n : ℕ) → s.depth ≡ n → Kept cs s (ret_of cs s k)
-      go zero e = rw (eq-eqb s.depth 0 e) (ends-kept cs s _)
+      go zero e = rw (eq-eqb s.depth 0 e) (ends-kept cs s Done)
       go (suc n) e =
           let m : k % 256 ≡ k = omega (arith, st.low) in
           let p : s.depth - 1 ≡ n = omega arith in

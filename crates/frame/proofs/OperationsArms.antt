@@ -8,6 +8,7 @@ use Rattle.semantics.specs.Limits.{too_large, below_zero}
 use Rattle.state.specs.declared.Operand.{Operand}
 use Rattle.state.specs.declared.Operand.TheVariants.{Empty, Number, Record, Refer}
 use Rattle.state.specs.declared.frames.State.{State}
+use Rattle.state.specs.declared.stops.Stop.TheVariants.{TooLarge as Large, BelowZero as Below, Broken}
 use Rattle.state.specs.code.Frames.{top_at}
 use Rattle.machine.specs.code.Machine.{MOutcome, as_number, calculates, doings}
 use Rattle.machine.specs.code.Views.{operands_in, locals_in, below_in, rooms_in, entries_in}
@@ -48,6 +49,6 @@ module _ (cs : List Operand) (s : State) (st : Stands cs s) where
     where
       shut : (c : Calculated) → Kept cs s (closed cs s c)
       shut (Value v) = settle-kept cs s st 2 (Number v) room
-      shut TooLarge = ends-kept cs s _
-      shut BelowZero = ends-kept cs s _
-      shut Unknown = ends-kept cs s _
+      shut TooLarge = ends-kept cs s Large
+      shut BelowZero = ends-kept cs s Below
+      shut Unknown = ends-kept cs s Broken

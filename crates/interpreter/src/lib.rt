@@ -70,7 +70,7 @@ pub fn run(s: State, cells: &mut [u64], table: &[u8], index: Index, budget: u32)
         let named = index.type_entries[(row.b % 64) as usize];
         let callee = index.procedure_entries[(row.b % 128) as usize];
         now = step::step(now, cells, table, row, own, named, callee);
-        if now.stop.is_some() {
+        if now.stop != 0 {
             return Ran {
                 state: now,
                 same: is_unmarked(left),
@@ -157,7 +157,7 @@ fn begin(mut s: State, procedure: u16, count: u8) -> State
     s.depth = 0;
     s.height = 0;
     s.count = count;
-    s.stop = None;
+    s.stop = 0;
     s.frames = state::frames::next_serial(s.frames);
     s
 }
@@ -167,7 +167,7 @@ fn restore(ran: Ran, cells: &mut [u64], saved: &[u64], first: State) -> Ran
     ensures { (after result.state (cells_of cells.new) ≡ restored_to (cells_of saved.now) first ran.same (after ran.state (cells_of cells.old))) × (result.same ≡ same_restored ran.same (stop_of result.state)) }
 {
     let s = ran.state;
-    if ran.same || s.stop == Some(Stop::Done) {
+    if ran.same || s.stop == Stop::Done.number() {
         return ran;
     }
     keep_memory(cells, saved, first);

@@ -227,7 +227,7 @@ module _ (cs : List Operand) (s : State) (st : Stands cs s) where
     where
       go : Dec (free < 128) → Kept cs s (cond (leb 128 free) (ends cs s TooManyRecords) (packed_in cs s k (b % 256) free))
       go (yes l) = rw (lt-leb 128 free l) (packed-kept cs s st k (b % 256) free enough few l refl room known)
-      go (no l) = rw (le-leb 128 free (omega arith)) (ends-kept cs s _)
+      go (no l) = rw (le-leb 128 free (omega arith)) (ends-kept cs s TooManyRecords)
 
   -- Unpack, where there is room for the fields of the record on top
   abbrev pub Room : Type 0
@@ -256,10 +256,10 @@ module _ (cs : List Operand) (s : State) (st : Stands cs s) where
     where
       from : (c m y : ℕ) → top_at cs s 0 ≡ Record c m y → (t : Bool) → is_live (head_in cs m) c ≡ t → Kept cs s (cond t (unpacked_at cs s m (second_of (head_in cs m))) (ends cs s Broken))
       from c m y e true l = unpacked-kept cs s st c m l (room c m y e l)
-      from c m y e false l = ends-kept cs s _
+      from c m y e false l = ends-kept cs s Broken
 
       go : (x : Operand) → top_at cs s 0 ≡ x → Kept cs s (unpacked_top cs s x)
-      go Empty e = ends-kept cs s _
-      go (Number v) e = ends-kept cs s _
+      go Empty e = ends-kept cs s Broken
+      go (Number v) e = ends-kept cs s Broken
       go (Record c m y) e = from c m y e (is_live (head_in cs m) c) refl
-      go (Refer r) e = ends-kept cs s _
+      go (Refer r) e = ends-kept cs s Broken

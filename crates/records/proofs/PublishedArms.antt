@@ -17,7 +17,7 @@ use Rattle.state.specs.declared.Operand.{Operand}
 use Rattle.state.specs.declared.Operand.TheVariants.{Empty, Number, Record, Refer}
 use Rattle.state.specs.declared.frames.State.{State}
 use Rattle.state.specs.declared.stops.Stop.{Stop}
-use Rattle.state.specs.declared.stops.Stop.TheVariants.{KeyTaken, NoSuchKey, TooManyEntries}
+use Rattle.state.specs.declared.stops.Stop.TheVariants.{KeyTaken, NoSuchKey, TooManyEntries, Broken}
 use Rattle.state.specs.code.Coding.{first_of, second_of}
 use Rattle.state.specs.code.Layout.{operand_cell, local_cell, suspended_cell, entry_cell, room_cell}
 use Rattle.state.specs.code.Frames.{top_at, dropped, gone_on}
@@ -67,7 +67,7 @@ module _ (cs : List Operand) (s : State) (st : Stands cs s) where
       (number_is cs s k (top_at cs s 0) (λ (a : ℕ). global_at cs s b (found cs s b a)) _ (λ a. rw (under-is b a (mstopped no_such_key) (λ (c r : ℕ). onward cs s 1 (Refer (Whole c r b)))) (entry-is k (found cs s b a) _ _ (λ l. settle_is cs s st 1 _ (omega (arith, st.low)) k))))
 
   pub global_kept : (b : ℕ) → Kept cs s (global_of cs s b)
-  global_kept b = number-kept cs s (top_at cs s 0) (λ (a : ℕ). global_at cs s (b % 256) (found cs s (b % 256) a)) (λ a. ends_or_kept (leb s.entries (found cs s (b % 256) a)) _ _ (settle-kept cs s st 1 _ (omega (arith, st.low))))
+  global_kept b = number-kept cs s (top_at cs s 0) (λ (a : ℕ). global_at cs s (b % 256) (found cs s (b % 256) a)) (λ a. ends_or_kept (leb s.entries (found cs s (b % 256) a)) NoSuchKey _ (settle-kept cs s st 1 _ (omega (arith, st.low))))
 
   -- Exists
   pub exists-is : (k b d kind others : ℕ) → b < 256 → outcome_of k (exists_of cs s b) ≡ doing b d kind 1 others cs s 14
@@ -140,7 +140,7 @@ module _ (cs : List Operand) (s : State) (st : Stands cs s) where
           )
 
   pub move_from-kept : (b : ℕ) → Kept cs s (move_from_of cs s b)
-  move_from-kept b = number-kept cs s (top_at cs s 0) (λ (a : ℕ). taken_out cs s (b % 256) (found cs s (b % 256) a)) (λ a. ends_or_kept (leb s.entries (found cs s (b % 256) a)) _ _ (taken-kept (found cs s (b % 256) a) _))
+  move_from-kept b = number-kept cs s (top_at cs s 0) (λ (a : ℕ). taken_out cs s (b % 256) (found cs s (b % 256) a)) (λ a. ends_or_kept (leb s.entries (found cs s (b % 256) a)) NoSuchKey _ (taken-kept (found cs s (b % 256) a) _))
 
   -- MoveTo
   pub move_to-is : (k b d kind others : ℕ) → b < 256 → outcome_of k (move_to_of cs s b) ≡ doing b d kind 2 others cs s 11
@@ -201,10 +201,10 @@ module _ (cs : List Operand) (s : State) (st : Stands cs s) where
     where
       room : (a c m : ℕ) → Dec (s.entries < 64) → Kept cs s (cond (leb 64 s.entries) (ends cs s TooManyEntries) (after (gone_on (dropped (with_entries s (s.entries + 1)) 2)) (added_in cs s.entries (b % 256) a c m)))
       room a c m (yes h) = rw (lt-leb 64 s.entries h) (kept cs _ s _ (length_added cs s.entries (b % 256) a c m) (λ r l. added_same cs s.entries (b % 256) a c m 672 1824 (inl (omega arith)) (room_cell r) (omega arith) (omega arith)) refl refl (omega arith) (omega arith))
-      room a c m (no h) = rw (le-leb 64 s.entries (omega arith)) (ends-kept cs s _)
+      room a c m (no h) = rw (le-leb 64 s.entries (omega arith)) (ends-kept cs s TooManyEntries)
 
       go : (a : ℕ) (x : Operand) → Kept cs s (moved_to cs s (b % 256) a x)
-      go a Empty = ends-kept cs s _
-      go a (Number n) = ends-kept cs s _
-      go a (Record c m t) = ends_or_kept (ltb (found cs s (b % 256) a) s.entries) _ _ (room a c m (dec_lt s.entries 64))
-      go a (Refer r) = ends-kept cs s _
+      go a Empty = ends-kept cs s Broken
+      go a (Number n) = ends-kept cs s Broken
+      go a (Record c m t) = ends_or_kept (ltb (found cs s (b % 256) a) s.entries) KeyTaken _ (room a c m (dec_lt s.entries 64))
+      go a (Refer r) = ends-kept cs s Broken

@@ -19,6 +19,7 @@ use Rattle.state.specs.declared.Reference.TheVariants.{Local, Field, Record as W
 use Rattle.state.specs.declared.Operand.{Operand}
 use Rattle.state.specs.declared.Operand.TheVariants.{Empty, Number, Record, Refer}
 use Rattle.state.specs.declared.frames.State.{State}
+use Rattle.state.specs.declared.stops.Stop.TheVariants.{StaleReference, Broken}
 use Rattle.state.specs.code.Coding.{number_of, first_of, second_of, third_of}
 use Rattle.state.specs.code.Cells.{held_at}
 use Rattle.state.specs.code.Layout.{operand_cell, local_cell, suspended_cell, room_cell}
@@ -47,10 +48,10 @@ module _ (cs : List Operand) (s : State) where
   number_is k (Refer r) f g h = refl
 
   pub number-kept : (x : Operand) (f : ℕ → Turning) → ((n : ℕ) → Kept cs s (f n)) → Kept cs s (with_number cs s x f)
-  number-kept Empty f h = ends-kept cs s _
+  number-kept Empty f h = ends-kept cs s Broken
   number-kept (Number n) f h = h n
-  number-kept (Record c m y) f h = ends-kept cs s _
-  number-kept (Refer r) f h = ends-kept cs s _
+  number-kept (Record c m y) f h = ends-kept cs s Broken
+  number-kept (Refer r) f h = ends-kept cs s Broken
 
   reference_is : (k : ℕ) (x : Operand) (f : Target → Turning) (g : Reference → MOutcome) → outcome_of k (f Impossible) ≡ mbroken → ((r : Reference) → outcome_of k (f (target_of cs s r)) ≡ g r) → outcome_of k (f (target_by cs s x)) ≡ as_reference x g
   reference_is k Empty f g i h = i
@@ -185,9 +186,9 @@ module _ (cs : List Operand) (s : State) (st : Stands cs s) where
     where
       to : (t : Target) → Kept cs s (read_at cs s t)
       to (ToNumber o) = settle-kept cs s st 1 _ (omega (arith, st.low))
-      to (ToRecord c m) = ends-kept cs s _
-      to Stale = ends-kept cs s _
-      to Impossible = ends-kept cs s _
+      to (ToRecord c m) = ends-kept cs s Broken
+      to Stale = ends-kept cs s StaleReference
+      to Impossible = ends-kept cs s Broken
 
   -- BorrowFld
   pub borrow_field_is : (k b d kind others : ℕ) → b / 8 < 256 → outcome_of k (borrow_field_of cs s b) ≡ doing b d kind 1 others cs s 8
@@ -212,16 +213,16 @@ module _ (cs : List Operand) (s : State) (st : Stands cs s) where
   borrow_field_kept b = to (target_top cs s)
     where
       of : (c m : ℕ) (x : Operand) → Kept cs s (borrowed_as cs s c m (b / 8 % 256) (b % 8) x)
-      of c m Empty = ends-kept cs s _
+      of c m Empty = ends-kept cs s Broken
       of c m (Number n) = settle-kept cs s st 1 _ (omega (arith, st.low))
       of c m (Record a r y) = settle-kept cs s st 1 _ (omega (arith, st.low))
-      of c m (Refer r) = ends-kept cs s _
+      of c m (Refer r) = ends-kept cs s Broken
 
       to : (t : Target) → Kept cs s (borrowed_in cs s t (b / 8 % 256) (b % 8))
-      to (ToNumber o) = ends-kept cs s _
+      to (ToNumber o) = ends-kept cs s Broken
       to (ToRecord c m) = of c m (held_at cs (field_cell cs m (b % 8)))
-      to Stale = ends-kept cs s _
-      to Impossible = ends-kept cs s _
+      to Stale = ends-kept cs s StaleReference
+      to Impossible = ends-kept cs s Broken
 
   -- WriteRef. The cell of a number to which a reference leads
   local-cell : (serial f count d l o : ℕ) → local_of serial f count d l ≡ Some o → (l < count) × (o ≡ local_cell d + l)
@@ -380,7 +381,7 @@ module _ (cs : List Operand) (s : State) (st : Stands cs s) where
       to n r Impossible e = refl
 
   pub write_kept : Kept cs s (write_of cs s)
-  write_kept = number-kept cs s (top_at cs s 1) (written_at cs s (target_top cs s)) (λ n. reference_kept cs s (top_at cs s 0) (λ (t : Target). written_at cs s t n) (ends-kept cs s _) (λ r. to n r (target_of cs s r) refl))
+  write_kept = number-kept cs s (top_at cs s 1) (written_at cs s (target_top cs s)) (λ n. reference_kept cs s (top_at cs s 0) (λ (t : Target). written_at cs s t n) (ends-kept cs s Broken) (λ r. to n r (target_of cs s r) refl))
     where
       headless : (r : Reference) (o : ℕ) → NumberCell cs s r o → (i : ℕ) → room_cell i ≡ o → ⊥
       headless r o (running e h q) i z = omega (arith, st.few, st.shallow)
@@ -393,6 +394,6 @@ module _ (cs : List Operand) (s : State) (st : Stands cs s) where
 
       to : (n : ℕ) (r : Reference) (t : Target) → target_of cs s r ≡ t → Kept cs s (written_at cs s t n)
       to n r (ToNumber o) e = kept cs (set cs o (Number n)) s _ (length-set cs o (Number n)) (λ i l. get_or-set_other cs o (room_cell i) (Number n) Empty (headless r o (number_cell r o e) i)) refl refl (omega arith) (omega arith)
-      to n r (ToRecord c m) e = ends-kept cs s _
-      to n r Stale e = ends-kept cs s _
-      to n r Impossible e = ends-kept cs s _
+      to n r (ToRecord c m) e = ends-kept cs s Broken
+      to n r Stale e = ends-kept cs s StaleReference
+      to n r Impossible e = ends-kept cs s Broken

@@ -6,7 +6,6 @@ ghost use Rattle.std.specs.Prelude.{◌≡◌, option_copied};
 ghost use Rattle.table.specs.Verdicts.{verdict_of};
 ghost use Rattle.text.specs.code.Placing.{placed, Puts};
 ghost use Rattle.state.specs.code.Cells.{cells_of};
-ghost use Rattle.state.specs.code.Stops.{number_of_stop};
 ghost use Rattle.running.specs.code.Lists.{results_in, end_line, line_of, text_in, run_by};
 
 use interpreter::Ran;
@@ -41,21 +40,17 @@ fn results_of(s: State, cells: &[u64], k: usize) -> [u64; 4]
 fn put_end(
     writer: &mut Writer<'_>,
     call: usize,
-    stop: Option<Stop>,
+    stop: u8,
     row: usize,
     results: [u64; 4],
     count: usize,
 )
-    ensures { Puts writer.old (end_line call (number_of_stop stop) row results count) writer.new }
+    ensures { Puts writer.old (end_line call stop row results count) writer.new }
 {
-    let Some(stop) = stop else {
-        writer.put_stop(call, 0, row);
-        return;
-    };
-    match stop {
-        Stop::Done => writer.put_done(call, &results[..count.min(4)]),
-        Stop::Broken => {}
-        _ => writer.put_stop(call, stop.number(), row),
+    if stop == Stop::Done.number() {
+        writer.put_done(call, &results[..count.min(4)]);
+    } else if stop != Stop::Broken.number() {
+        writer.put_stop(call, stop, row);
     }
 }
 

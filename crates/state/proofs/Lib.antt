@@ -2,4 +2,3 @@ pub mod Tests
 pub mod Coding
 pub mod Cells
 pub mod Searches
-pub mod Ends

@@ -9,7 +9,7 @@ use crate::Operand;
 use crate::stops::Stop;
 
 // Of the running frame: its serial number, its procedure, the instruction that it is at, how many frames are below it, how many operands and how many
-// locals it has. How many frames and how many records there have been. Then why the call ended, if it has; how many entries the store has, a number of rooms past
+// locals it has. How many frames and how many records there have been. Then 0, or the number of why the call ended; how many entries the store has, a number of rooms past
 // which none is in use, and one below which all are. The order of the fields is one in which the compiler keeps them in registers.
 #[derive(Clone, Copy)]
 pub struct State {
@@ -21,7 +21,7 @@ pub struct State {
     pub depth: u8,
     pub height: u8,
     pub count: u8,
-    pub stop: Option<Stop>,
+    pub stop: u8,
     pub entries: u8,
     pub rooms: u8,
     pub free: u8,
@@ -58,7 +58,7 @@ impl State {
         depth: 0,
         height: 0,
         count: 0,
-        stop: None,
+        stop: 0,
         records: 0,
         frames: 0,
         entries: 0,
@@ -155,7 +155,7 @@ impl State {
     pub fn stopped(mut self, stop: Stop) -> Self
         ensures { result ≡ stopped_with self stop }
     {
-        self.stop = Some(stop);
+        self.stop = stop.number();
         self
     }
 

@@ -15,7 +15,7 @@ use Rattle.state.specs.declared.Operand.{Operand}
 use Rattle.state.specs.declared.Operand.TheVariants.{Empty, Number, Record, Refer}
 use Rattle.state.specs.declared.frames.State.{State}
 use Rattle.state.specs.declared.stops.Stop.{Stop}
-use Rattle.state.specs.declared.stops.Stop.TheVariants.{Done, TooManyRecords, TooManyEntries, Broken}
+use Rattle.state.specs.declared.stops.Stop.TheVariants.{Done, TooLarge as Large, KeyTaken, NoSuchKey, StaleReference, TooManyFrames, TooManyRecords, TooManyEntries, BelowZero as Below, Broken}
 use Rattle.state.specs.code.Layout.{room_cell}
 use Rattle.state.specs.code.Coding.{is_number, number_of}
 use Rattle.state.specs.code.Stops.{number_of as stop_number}
@@ -55,37 +55,37 @@ module _ (cs : List Operand) (s : State) where
   either false a b = b
 
   number : {r : Bool} → (x : Operand) {t : Turning} → Shape cs s r t → Shape cs s r (cond (is_number x) t (ends cs s Broken))
-  number x h = either (is_number x) h (stays _ refl)
+  number x h = either (is_number x) h (stays Broken refl)
 
   closes : {r : Bool} → (x : Calculated) → Shape cs s r (closed cs s x)
   closes (Value v) = calm refl refl refl refl
-  closes TooLarge = stays _ refl
-  closes BelowZero = stays _ refl
-  closes Unknown = stays _ refl
+  closes TooLarge = stays Large refl
+  closes BelowZero = stays Below refl
+  closes Unknown = stays Broken refl
 
   reads : {r : Bool} → (x : Target) → Shape cs s r (read_at cs s x)
   reads (ToNumber o) = calm refl refl refl refl
-  reads (ToRecord c m) = stays _ refl
-  reads Stale = stays _ refl
-  reads Impossible = stays _ refl
+  reads (ToRecord c m) = stays Broken refl
+  reads Stale = stays StaleReference refl
+  reads Impossible = stays Broken refl
 
   writes : {r : Bool} → (x : Target) (n : ℕ) → Shape cs s r (written_at cs s x n)
   writes (ToNumber o) n = calm refl refl refl refl
-  writes (ToRecord c m) n = stays _ refl
-  writes Stale n = stays _ refl
-  writes Impossible n = stays _ refl
+  writes (ToRecord c m) n = stays Broken refl
+  writes Stale n = stays StaleReference refl
+  writes Impossible n = stays Broken refl
 
   borrows_held : {r : Bool} → (c m y j : ℕ) (x : Operand) → Shape cs s r (borrowed_as cs s c m y j x)
-  borrows_held c m y j Empty = stays _ refl
+  borrows_held c m y j Empty = stays Broken refl
   borrows_held c m y j (Number n) = calm refl refl refl refl
   borrows_held c m y j (Record a r k) = calm refl refl refl refl
-  borrows_held c m y j (Refer r) = stays _ refl
+  borrows_held c m y j (Refer r) = stays Broken refl
 
   borrows : {r : Bool} → (x : Target) (y j : ℕ) → Shape cs s r (borrowed_in cs s x y j)
-  borrows (ToNumber o) y j = stays _ refl
+  borrows (ToNumber o) y j = stays Broken refl
   borrows (ToRecord c m) y j = borrows_held c m y j (held_at cs (field_cell cs m j))
-  borrows Stale y j = stays _ refl
-  borrows Impossible y j = stays _ refl
+  borrows Stale y j = stays StaleReference refl
+  borrows Impossible y j = stays Broken refl
 
   packs : {b : Bool} (k y r : ℕ) → Shape cs s b (cond (leb 128 r) (ends cs s TooManyRecords) (packed_in cs s k y r))
   packs k y r = go (dec_lt r 128)
@@ -96,36 +96,36 @@ module _ (cs : List Operand) (s : State) where
 
       go : {b : Bool} → Dec (r < 128) → Shape cs s b (cond (leb 128 r) (ends cs s TooManyRecords) (packed_in cs s k y r))
       go (yes h) = rw (lt-leb 128 r h) (goes {s' = gone_on (pushed (dropped (packed_state s r) k))} (record { runs_on = refl; depth_low = λ l. l; entries-low = λ l. l; rooms_low = λ l. rw (lt-ltb r 255 (omega arith)) (more (leb s.rooms r) l h) }))
-      go (no h) = rw (le-leb 128 r (omega arith)) (stays _ refl)
+      go (no h) = rw (le-leb 128 r (omega arith)) (stays TooManyRecords refl)
 
   unpacks : {r : Bool} → (x : Operand) → Shape cs s r (unpacked_top cs s x)
-  unpacks Empty = stays _ refl
-  unpacks (Number n) = stays _ refl
-  unpacks (Record c m y) = either (is_live (get_or cs (room_cell m) Empty) c) (calm refl refl refl refl) (stays _ refl)
-  unpacks (Refer r) = stays _ refl
+  unpacks Empty = stays Broken refl
+  unpacks (Number n) = stays Broken refl
+  unpacks (Record c m y) = either (is_live (get_or cs (room_cell m) Empty) c) (calm refl refl refl refl) (stays Broken refl)
+  unpacks (Refer r) = stays Broken refl
 
   adds : {r : Bool} → (y a c m : ℕ) → Shape cs s r (published_as cs s y a c m)
-  adds y a c m = either (ltb (found cs s y a) s.entries) (stays _ refl) (go (dec_lt s.entries 64))
+  adds y a c m = either (ltb (found cs s y a) s.entries) (stays KeyTaken refl) (go (dec_lt s.entries 64))
     where
       go : {r : Bool} → Dec (s.entries < 64) → Shape cs s r (cond (leb 64 s.entries) (ends cs s TooManyEntries) (after (gone_on (dropped (with_entries s (s.entries + 1)) 2)) (added_in cs s.entries y a c m)))
       go (yes h) = rw (lt-leb 64 s.entries h) (goes {s' = gone_on (dropped (with_entries s (s.entries + 1)) 2)} (record { runs_on = refl; depth_low = λ l. l; entries-low = λ l. omega arith; rooms_low = λ l. l }))
-      go (no h) = rw (le-leb 64 s.entries (omega arith)) (stays _ refl)
+      go (no h) = rw (le-leb 64 s.entries (omega arith)) (stays TooManyEntries refl)
 
   publishes : {r : Bool} → (y a : ℕ) (x : Operand) → Shape cs s r (moved_to cs s y a x)
-  publishes y a Empty = stays _ refl
-  publishes y a (Number n) = stays _ refl
+  publishes y a Empty = stays Broken refl
+  publishes y a (Number n) = stays Broken refl
   publishes y a (Record c m k) = adds y a c m
-  publishes y a (Refer r) = stays _ refl
+  publishes y a (Refer r) = stays Broken refl
 
   withdraws : {r : Bool} → (y i : ℕ) → Shape cs s r (taken_out cs s y i)
-  withdraws y i = either (leb s.entries i) (stays _ refl) (goes (record { runs_on = refl; depth_low = λ l. l; entries-low = λ l. omega arith; rooms_low = λ l. l }))
+  withdraws y i = either (leb s.entries i) (stays NoSuchKey refl) (goes (record { runs_on = refl; depth_low = λ l. l; entries-low = λ l. omega arith; rooms_low = λ l. l }))
 
   calls : {r : Bool} → (procedure k count : ℕ) → Shape cs s r (called_in cs s procedure k count)
   calls procedure k count = go (dec_lt s.depth 15)
     where
       go : {r : Bool} → Dec (s.depth < 15) → Shape cs s r (called_in cs s procedure k count)
       go (yes h) = rw (lt-leb 15 s.depth h) (goes {s' = entered (dropped s k) procedure count} (record { runs_on = refl; depth_low = λ l. rw (lt-ltb s.depth 255 (omega arith)) (omega arith); entries-low = λ l. l; rooms_low = λ l. l }))
-      go (no h) = rw (le-leb 15 s.depth (omega arith)) (stays _ refl)
+      go (no h) = rw (le-leb 15 s.depth (omega arith)) (stays TooManyFrames refl)
 
   resumes : Bounded s (resumed cs s)
   resumes = go (eqb s.depth 0)
@@ -147,7 +147,7 @@ module _ (cs : List Operand) (s : State) where
       go : {r : Bool} → (n c : Bool) → Shape cs s r (after (cond n (cond c (gone_on (dropped s 1)) (gone_to (dropped s 1) b)) (stopped_with s Broken)) cs)
       go true true = calm refl refl refl refl
       go true false = calm refl refl refl refl
-      go false c = stays _ refl
+      go false c = stays Broken refl
 
   -- by opcode
   pub turn_shape : (b d kind fields parameters count results a : ℕ) → Shape cs s (eqb a 16) (get_or (turns b d kind fields parameters count results cs s) a (ends cs s Broken))
@@ -161,7 +161,7 @@ module _ (cs : List Operand) (s : State) where
       ▸ unpacks (top_at cs s 0)
       ▸ number (top_at cs s 0) (publishes (b % 256) (number_of (top_at cs s 0)) (top_at cs s 1))
       ▸ number (top_at cs s 0) (withdraws (b % 256) (found cs s (b % 256) (number_of (top_at cs s 0))))
-      ▸ number (top_at cs s 0) (either (leb s.entries (found cs s (b % 256) (number_of (top_at cs s 0)))) (stays _ refl) (calm refl refl refl refl))
+      ▸ number (top_at cs s 0) (either (leb s.entries (found cs s (b % 256) (number_of (top_at cs s 0)))) (stays NoSuchKey refl) (calm refl refl refl refl))
       ▸ number (top_at cs s 0) (calm refl refl refl refl)
       ▸ calls b (parameters % 256) (within count)
       ▸ returns results
@@ -169,4 +169,4 @@ module _ (cs : List Operand) (s : State) where
       ▸ branches b (top_at cs s 0)
       ▸ closes (operated b (top_at cs s 1) (top_at cs s 0))
       ▸ calm refl refl refl refl
-      ▸ tt) (λ a. stays _ refl)
+      ▸ tt) (λ a. stays Broken refl)

@@ -8,7 +8,6 @@ use Rattle.state.specs.declared.Operand.{Operand}
 use Rattle.state.specs.declared.frames.State.{State}
 use Rattle.interpreter.specs.code.Run.{same_by, run_from, same_from}
 use Rattle.interpreter.proofs.Loops.{run_ends, run_on, run_spent, same_ends, same-on, same-spent}
-use Rattle.state.proofs.Ends.{ended, runs}
 use native.Mathlib.Omega.{arith}
 use borrow.Author.Rules.{rules}
 use Rattle.interpreter.proofs.run.Goals as goal
@@ -29,13 +28,13 @@ still n a h e = e ∙ rw (less n h).1
 pub loop-left-init : goal.loop-left-init
 loop-left-init c = let h = starts _ _ _ _ c.args.budget in (refl, h.0, h.1)
 
-pub shape_of-cells-then-is_some : goal.shape_of-cells-then-is_some
-shape_of-cells-then-is_some c = search (rules, c.loop-left.invariant.0)
+pub shape_of-cells-then-now-ne0 : goal.shape_of-cells-then-now-ne0
+shape_of-cells-then-now-ne0 c = search (rules, c.loop-left.invariant.0)
 
-pub returns-then-is_some : goal.returns-then-is_some
-returns-then-is_some c = (
-  run_ends _ _ _ _ _ c.loop-left.invariant.1 (omega arith) _ c.instruction_at-row.ensures _ _ c.step-now.ensures (ended _ c.is_some.ensures c.if-is_some.true),
-  c.is_unmarked.ensures ∙ rw (less c.loop-left.left (omega arith)).1 (same_ends _ _ _ _ (c.loop-left.left / 2) (omega arith) _ c.instruction_at-row.ensures _ _ c.step-now.ensures (eqb (c.loop-left.left % 2) 0) c.loop-left.invariant.2 (ended _ c.is_some.ensures c.if-is_some.true)),
+pub returns-then-now-ne0 : goal.returns-then-now-ne0
+returns-then-now-ne0 c = (
+  run_ends _ _ _ _ _ c.loop-left.invariant.1 (omega arith) _ c.instruction_at-row.ensures _ _ c.step-now.ensures c.if-now-ne0.true,
+  c.is_unmarked.ensures ∙ rw (less c.loop-left.left (omega arith)).1 (same_ends _ _ _ _ (c.loop-left.left / 2) (omega arith) _ c.instruction_at-row.ensures _ _ c.step-now.ensures (eqb (c.loop-left.left % 2) 0) c.loop-left.invariant.2 c.if-now-ne0.true),
 )
 
 pub loop-left-preserved : goal.loop-left-preserved
@@ -43,8 +42,8 @@ loop-left-preserved c =
     let l = less c.loop-left.left (omega arith) in
     let n = c.marked_by-left.ensures.0 ∙ l.0 in (
       search (rules, c.loop-left.invariant.0),
-      run_on _ _ _ _ _ c.loop-left.invariant.1 (omega arith) _ c.instruction_at-row.ensures _ _ c.step-now.ensures (runs _ c.is_some.ensures c.if-is_some.false) ∙ rw n,
-      same-on _ _ _ _ (c.loop-left.left / 2) (omega arith) _ c.instruction_at-row.ensures _ _ c.step-now.ensures (eqb (c.loop-left.left % 2) 0) c.loop-left.invariant.2 (still c.loop-left.left _ (omega arith) c.marked_by-left.ensures.1) (runs _ c.is_some.ensures c.if-is_some.false) ∙ rw n,
+      run_on _ _ _ _ _ c.loop-left.invariant.1 (omega arith) _ c.instruction_at-row.ensures _ _ c.step-now.ensures c.if-now-ne0.false ∙ rw n,
+      same-on _ _ _ _ (c.loop-left.left / 2) (omega arith) _ c.instruction_at-row.ensures _ _ c.step-now.ensures (eqb (c.loop-left.left % 2) 0) c.loop-left.invariant.2 (still c.loop-left.left _ (omega arith) c.marked_by-left.ensures.1) c.if-now-ne0.false ∙ rw n,
     )
 
 pub returns : goal.returns

@@ -1,5 +1,5 @@
 -- A call of a list: its beginning, its instructions, and what there is after it.
-use Rattle.std.specs.Prelude.{ℕ, None, zero, suc, ◌+◌, ◌-◌, ◌*◌, Bool, true, not, cond, List, [], ◌∷◌, eqb, leb, length, get_or, set}
+use Rattle.std.specs.Prelude.{ℕ, zero, suc, ◌+◌, ◌-◌, ◌*◌, Bool, true, not, cond, List, [], ◌∷◌, eqb, leb, length, get_or, set}
 use Rattle.table.specs.declared.index.Index.{Index}
 use Rattle.declarations.specs.Program.{procedure_in, local_count}
 use Rattle.semantics.specs.Calls.{Call, call}
@@ -42,7 +42,7 @@ filled cs at (x ∷ xs) = filled (set cs at (Number x)) (at + 1) xs
 
 -- a call of procedure p begins
 abbrev pub begun : State → ℕ → ℕ → State
-begun s p count = record { serial = s.frames; procedure = p; at = 0; depth = 0; height = 0; count = count; stop = None; records = s.records; frames = next_serial s.frames; entries = s.entries; rooms = s.rooms; free = s.free }
+begun s p count = record { serial = s.frames; procedure = p; at = 0; depth = 0; height = 0; count = count; stop = 0; records = s.records; frames = next_serial s.frames; entries = s.entries; rooms = s.rooms; free = s.free }
 
 abbrev pub begun_in : List Operand → ℕ → List ℕ → List Operand
 begun_in cs count args = filled (emptied cs 16 count) 16 args

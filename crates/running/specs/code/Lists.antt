@@ -1,5 +1,5 @@
 -- A list of calls by the interpreter's account, for any table, index and list.
-use Rattle.std.specs.Prelude.{ℕ, ◌+◌, ◌-◌, Bool, false, cond, Option, None, List, [], ◌∷◌, ◌++◌, map, eqb, leb, get_or, take, replicate}
+use Rattle.std.specs.Prelude.{ℕ, ◌+◌, ◌-◌, Bool, false, cond, Option, List, [], ◌∷◌, ◌++◌, map, eqb, leb, get_or, take, replicate}
 use Rattle.table.specs.declared.index.Index.{Index}
 use Rattle.declarations.specs.Program.{procedure_in}
 use Rattle.judging.specs.code.Files.{has_of, bytes_of}
@@ -33,7 +33,7 @@ end_line i stop row results count =
 
 -- before the first call
 abbrev pub start : State
-start = record { serial = 0; procedure = 0; at = 0; depth = 0; height = 0; count = 0; stop = None; records = 0; frames = 0; entries = 0; rooms = 0; free = 0 }
+start = record { serial = 0; procedure = 0; at = 0; depth = 0; height = 0; count = 0; stop = 0; records = 0; frames = 0; entries = 0; rooms = 0; free = 0 }
 
 abbrev pub all_empty : List Operand
 all_empty = replicate all_cells Empty

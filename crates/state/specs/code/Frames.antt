@@ -1,12 +1,12 @@
 -- What the methods of the state give, and what they do to the cells.
-use Rattle.std.specs.Prelude.{ℕ, Some, ◌+◌, ◌-◌, ◌*◌, ◌/◌, ◌%◌, cond, List, leb, ltb, eqb, get_or, set}
+use Rattle.std.specs.Prelude.{ℕ, ◌+◌, ◌-◌, ◌*◌, ◌/◌, ◌%◌, cond, List, leb, ltb, eqb, get_or, set}
 use Rattle.state.specs.declared.Operand.{Operand}
 use Rattle.state.specs.declared.Operand.TheVariants.{Empty, Number, Record}
 use Rattle.state.specs.declared.frames.State.{State}
 use Rattle.state.specs.declared.stops.Stop.{Stop}
 use Rattle.state.specs.code.Coding.{number_of, first_of, second_of, third_of}
 use Rattle.state.specs.code.Cells.{copied, moved, emptied}
-use Rattle.state.specs.code.Stops.{number_of_stop}
+use Rattle.state.specs.code.Stops.{number_of as end_number}
 use Rattle.state.specs.code.Layout.{operand_cell, local_cell, suspended_cell}
 
 unfoldable pub next_serial : ℕ → ℕ
@@ -17,7 +17,7 @@ with_height s h = record { serial = s.serial; procedure = s.procedure; at = s.at
 
 -- the number of why its call ended, 0 while it runs
 abbrev pub stop_of : State → ℕ
-stop_of s = number_of_stop s.stop
+stop_of s = s.stop
 
 -- an operand pushed; the operand number k from the top; k operands taken; at instruction i; the call ended
 abbrev pub pushed : State → State
@@ -39,7 +39,7 @@ abbrev pub gone_on : State → State
 gone_on s = gone_to s (cond (ltb s.at 65535) (s.at + 1) s.at)
 
 abbrev pub stopped_with : State → Stop → State
-stopped_with s k = record { serial = s.serial; procedure = s.procedure; at = s.at; depth = s.depth; height = s.height; count = s.count; stop = Some k; records = s.records; frames = s.frames; entries = s.entries; rooms = s.rooms; free = s.free }
+stopped_with s k = record { serial = s.serial; procedure = s.procedure; at = s.at; depth = s.depth; height = s.height; count = s.count; stop = end_number k; records = s.records; frames = s.frames; entries = s.entries; rooms = s.rooms; free = s.free }
 
 -- a local pushed, emptied, filled from the top
 abbrev pub loaded_in : List Operand → State → ℕ → List Operand

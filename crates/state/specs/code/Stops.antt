@@ -1,5 +1,5 @@
--- The numbers of why a call ended, and 0 while it runs.
-use Rattle.std.specs.Prelude.{ℕ, Option, Some, None}
+-- The numbers of why a call ended.
+use Rattle.std.specs.Prelude.{ℕ}
 use Rattle.state.specs.declared.stops.Stop.{Stop}
 use Rattle.state.specs.declared.stops.Stop.TheVariants.{Done, BudgetSpent, TooLarge, KeyTaken, NoSuchKey, StaleReference, TooManyFrames, TooManyRecords, TooManyEntries, BelowZero, Broken}
 
@@ -15,7 +15,3 @@ number_of TooManyRecords = 37
 number_of TooManyEntries = 38
 number_of BelowZero = 39
 number_of Broken = 99
-
-abbrev pub number_of_stop : Option Stop → ℕ
-number_of_stop None = 0
-number_of_stop (Some k) = number_of k
