@@ -22,6 +22,8 @@ use Rattle.locals.specs.Locals.{locals_of}
 use Rattle.leaks.specs.Leaks.{leaks_of}
 use Rattle.policy.specs.Policy.{file_of, rule_fault, pairs_of, call_fault, rules_with, rules_of}
 use Rattle.policy.proofs.Words.{wrong_length, length-good, file_refuses, pairs-number, calls-number}
+use Rattle.std.specs.Prelude.{Some, None}
+use Rattle.judging.specs.code.Files.{judge_by, file_if}
 use Rattle.judging.specs.Judging.{judge_of, judge_under, in_order, passes}
 use Rattle.judging.proofs.Accepts.{accepted, accepting, code-rows}
 use Rattle.judging.proofs.Numbers.{length-number, rows-number, later_refusals, after-rows, other}
@@ -110,3 +112,12 @@ under_small has r t = go (judge_of t) refl (value_small t)
     go : (v : Verdict) → judge_of t ≡ v → value_of v ≤ 2048 → value_of (and_then v (rules_of has r t)) ≤ 2048
     go (Refused number row) e h = h
     go (Accepted n) e h = rules (omega (arith, judge_rows t n e)) (eqb has 0)
+
+-- the file of a call from C
+pub by_file : (has : ℕ) (r t : List ℕ) → judge_by (file_if has r) t ≡ judge_under has r t
+unfolding judge_under rules_of
+by_file has r t = go (eqb has 0)
+  where
+    go : (b : Bool) → judge_by (cond b None (Some r)) t ≡ and_then (judge_of t) (cond b (Accepted (row_count t)) (rules_with r (index_of t) t))
+    go true = refl
+    go false = refl

@@ -4,7 +4,7 @@
 ghost use Rattle.std.specs.Prelude.{◌≡◌, option_copied};
 ghost use Rattle.table.specs.Verdicts.{verdict_of};
 ghost use Rattle.judging.specs.Judging.{judge_of};
-ghost use Rattle.judging.specs.code.Files.{judge_by};
+ghost use Rattle.judging.specs.code.Files.{file_if, judge_by};
 
 use table::format;
 use table::index;
@@ -21,6 +21,13 @@ pub fn judge_table(table: &[u8]) -> Result<usize, Refusal>
     locals::locals_with(table, index)?;
     leaks::leaks_with(table, index)?;
     Ok(table.len() / format::ROW_BYTES)
+}
+
+// The rule file that a caller lends, who says by `has` whether there is one: none where it is 0.
+pub fn rules_if(rules: &[u8], has: u64) -> Option<&[u8]>
+    ensures { option_copied result ≡ file_if has rules.now }
+{
+    if has == 0 { None } else { Some(rules) }
 }
 
 // Judges a table under a rule file, where there is one. `judge_table` is called in two places, so that it is not inlined: beside other code it takes up to a

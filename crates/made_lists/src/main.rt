@@ -89,7 +89,7 @@ fn run_next<R: Read, W: Write>(
         return Ok(false);
     }
     writeln!(out, "case {k}").context("standard output")?;
-    let file = if has == 0 { None } else { Some(&rules[..r]) };
+    let file = judging::rules_if(&rules[..r], has as u64);
     let answer = running::run_list(&table[..n], &list[..m], file, &mut text[..size]);
     printing::print_run(out, answer, &text[..size]).context("standard output")?;
     Ok(true)

@@ -57,7 +57,7 @@ fn judge_next<R: Read, W: Write>(
     if rules.len() < m {
         return Ok(false);
     }
-    let file = if has == 0 { None } else { Some(&rules[..m]) };
+    let file = judging::rules_if(&rules[..m], has as u64);
     let verdict = judging::judge_under(&table[..n], file);
     printing::print_verdict(out, verdict).context("standard output")?;
     Ok(true)

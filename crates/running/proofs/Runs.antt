@@ -9,7 +9,8 @@ use Rattle.table.specs.Verdicts.{Verdict, Accepted, Refused}
 use Rattle.table.specs.declared.index.Index.{Index}
 use Rattle.table.specs.Index.{index_of}
 use Rattle.judging.specs.Judging.{judge_under}
-use Rattle.judging.proofs.Under.{without, under_accepts}
+use Rattle.judging.specs.code.Files.{file_if}
+use Rattle.judging.proofs.Under.{by_file, without, under_accepts}
 use Rattle.acceptance.specs.Judged.{Bytes}
 use Rattle.semantics.specs.Calls.{list_of}
 use Rattle.semantics.specs.Text.{text_of}
@@ -17,8 +18,13 @@ use Rattle.semantics.specs.Run.{min_text, buffer_of, history_of, answer_with, ru
 use Rattle.semantics.proofs.Lengths.{text_fits}
 use Rattle.text.specs.code.Placing.{placed}
 use Rattle.text.proofs.Placing.{placed_fits}
-use Rattle.running.specs.code.Lists.{text_in}
+use Rattle.running.specs.code.Lists.{text_in, run_by}
 use Rattle.running.proofs.Follows.{text_is}
+
+-- the file of a call from C
+pub run_file : (has : ℕ) (r t l buffer : List ℕ) → run_by (file_if has r) t l buffer ≡ run_of has r t l buffer
+unfolding run_of answer_with
+run_file has r t l buffer = rw (by_file has r t)
 
 -- without a rule file its bytes are not looked at
 pub run_without : (r t l buffer : List ℕ) → run_of 0 r t l buffer ≡ run_of 0 [] t l buffer

@@ -1,23 +1,16 @@
 // The functions that a host written in C calls.
 #![tactic(auto)]
 
-ghost use Rattle.std.specs.Prelude.{◌≡◌, ◌<◌, option_copied};
+ghost use Rattle.std.specs.Prelude.{◌≡◌, ◌<◌};
 ghost use Rattle.table.specs.Verdicts.{value_of, verdict_of};
 ghost use Rattle.semantics.specs.Run.{run_of};
 ghost use Rattle.judging.specs.Judging.{judge_under, answer_of};
-ghost use Rattle.judging.specs.code.Files.{file_if};
 
 use table::refusals;
 use table::refusals::Refusal;
 
-// The rule file of a call from C, which has none where `has` is 0.
-fn rules_if(rules: &[u8], has: u64) -> Option<&[u8]>
-    ensures { option_copied result ≡ file_if has rules.now }
-{
-    if has == 0 { None } else { Some(rules) }
-}
-
 // An answer in one number: number * 2^32 + value.
+#[tactic(auto, unfolding(judging::specs::Judging::answer_of))]
 fn answer_of(verdict: Result<usize, Refusal>) -> u64
     requires { value_of (verdict_of verdict) < 4294967296 }
     ensures { result ≡ answer_of (verdict_of verdict) }
@@ -31,7 +24,7 @@ fn answer_of(verdict: Result<usize, Refusal>) -> u64
 pub extern "C" fn yithrel_judge(table: &[u8], rules: &[u8], has: u64) -> u64
     ensures { result ≡ answer_of (judge_under has rules.now table.now) }
 {
-    answer_of(judging::judge_under(table, rules_if(rules, has)))
+    answer_of(judging::judge_under(table, judging::rules_if(rules, has)))
 }
 
 // Runs a list of calls over a table, judged under a rule file unless `has` is 0, and puts the text at the buffer's start. The answer is number * 2^32 +
@@ -47,5 +40,5 @@ pub extern "C" fn yithrel_run(
 ) -> u64
     ensures { (result ≡ answer_of (run_of has rules.now table.now list.now text.old).answer) × (text.new ≡ (run_of has rules.now table.now list.now text.old).buffer) }
 {
-    answer_of(running::run_list(table, list, rules_if(rules, has), text))
+    answer_of(running::run_list(table, list, judging::rules_if(rules, has), text))
 }
