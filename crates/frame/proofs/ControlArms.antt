@@ -21,7 +21,7 @@ use Rattle.state.specs.code.Frames.{next_serial, top_at, dropped, gone_to, gone_
 use Rattle.machine.specs.code.Machine.{MFrame, mframe, mstate, MOutcome, mnext, mstopped, as_number, given, topmost, doings}
 use Rattle.machine.specs.code.Views.{up_from, down_from, operands_in, locals_in, frame_in, below_in, rooms_in, entries_in, Same}
 use Rattle.machine.proofs.Views.{same_refl, same_trans, up_same, below-same, rooms_same, entries-same, length-below, length_suspended, length-entered, length-received, suspended_same, entered-same, received-same, pair_first, top-is, drop-is, topmost-is, enter_locals, suspend_is, receive_operands, receive_locals}
-use Rattle.frame.specs.code.Turning.{after, done, broken}
+use Rattle.frame.specs.code.Turning.{after}
 use Rattle.frame.specs.code.Control.{call_of, called_in, ret_of, branched_by, branch_of}
 use Rattle.frame.proofs.Meaning.{outcome_of, doing, Stands, Kept}
 use Rattle.frame.proofs.Settles.{kept, ends-kept, goes-is, goes_kept, next-is}

@@ -4,7 +4,6 @@ use mathlib.Core.Path.{◌≡◌, refl}
 use mathlib.Core.List.{List}
 use native.Mathlib.Omega.{arith}
 use Rattle.arithmetic.specs.Arithmetic.{Calculated, Value, TooLarge, BelowZero, Unknown, calculation}
-use Rattle.semantics.specs.Limits.{too_large, below_zero}
 use Rattle.state.specs.declared.Operand.{Operand}
 use Rattle.state.specs.declared.Operand.TheVariants.{Empty, Number, Record, Refer}
 use Rattle.state.specs.declared.frames.State.{State}
@@ -13,7 +12,6 @@ use Rattle.state.specs.code.Frames.{top_at}
 use Rattle.machine.specs.code.Machine.{MOutcome, as_number, calculates, doings}
 use Rattle.machine.specs.code.Views.{operands_in, locals_in, below_in, rooms_in, entries_in}
 use Rattle.machine.proofs.Views.{top-is, second_is}
-use Rattle.frame.specs.code.Turning.{broken}
 use Rattle.frame.specs.code.Operations.{closed, operated, op_of}
 use Rattle.frame.proofs.Meaning.{outcome_of, doing, Stands, Kept}
 use Rattle.frame.proofs.Settles.{ends-kept, settle_is, settle-kept}

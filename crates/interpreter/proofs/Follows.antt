@@ -9,7 +9,6 @@ use lib.Dec.{eqb}
 use lib.ListN.{length}
 use Rattle.table.specs.Index.{index_of}
 use Rattle.declarations.specs.Program.{procedure_in}
-use Rattle.semantics.specs.Limits.{budget_spent}
 use Rattle.semantics.proofs.Changes.{clash}
 use Rattle.acceptance.specs.Judged.{Judged}
 use Rattle.state.specs.declared.Operand.{Operand}

@@ -12,7 +12,6 @@ use Rattle.table.specs.declared.index.ProcedureEntry.{ProcedureEntry}
 use Rattle.table.specs.Rows.{row_at}
 use Rattle.declarations.specs.Program.{code_of, procedure_in, local_count}
 use Rattle.semantics.specs.Calls.{call}
-use Rattle.semantics.specs.Limits.{budget_spent}
 use Rattle.state.specs.declared.Operand.{Operand}
 use Rattle.state.specs.declared.frames.State.{State}
 use Rattle.state.specs.declared.stops.Stop.TheVariants.{BudgetSpent}

@@ -26,7 +26,7 @@ use Rattle.machine.specs.code.Runs.{did, mstep}
 use Rattle.machine.specs.code.Views.{up_from, operands_in, view_of}
 use Rattle.machine.proofs.Views.{length_up, length_down, top-is}
 use Rattle.machine.proofs.Memory.{head_in, room_of_lem}
-use Rattle.frame.specs.code.Turning.{Turning, ends, broken}
+use Rattle.frame.specs.code.Turning.{Turning, ends}
 use Rattle.frame.specs.code.Stack.{popped_by}
 use Rattle.step.specs.code.Step.{turns, turn_of}
 use Rattle.frame.proofs.Meaning.{outcome_of, doing, Stands, Kept}

@@ -26,7 +26,7 @@ use Rattle.machine.specs.code.Machine.{mframe, mroom, mstate, MOutcome, mnext, m
 use Rattle.machine.specs.code.Views.{up_from, operands_in, locals_in, below_in, rooms_in, entries_in, Same}
 use Rattle.machine.proofs.Views.{same_trans, below-same, rooms_same, entries-same, down_same, up_same, set_same, length_moved, moved_other, moved_same, top-is, drop-is, topmost-is, length-received, received-same, receive_operands, receive_locals}
 use Rattle.machine.proofs.Memory.{head_in, head_past, room_of_lem, free_first, free_used, rooms_filled, rooms_cleared}
-use Rattle.frame.specs.code.Turning.{broken, ends}
+use Rattle.frame.specs.code.Turning.{ends}
 use Rattle.records.specs.code.Packing.{packed_state, unpacked_state, packed_in, pack_of, unpacked_at, unpacked_top, unpack_of}
 use Rattle.frame.proofs.Meaning.{outcome_of, doing, Tidy, Stands, Kept}
 use Rattle.frame.proofs.Settles.{next-is, settle_is, settle-kept, ends-kept}

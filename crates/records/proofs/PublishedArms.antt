@@ -26,7 +26,7 @@ use Rattle.machine.specs.code.Machine.{mframe, mentry, mstate, MOutcome, mnext, 
 use Rattle.machine.specs.code.Views.{operands_in, locals_in, below_in, rooms_in, entry_in, entries_in, Same}
 use Rattle.machine.proofs.Views.{length-entries, below-same, rooms_same, down_same, up_same, top-is, second_is, drop-is}
 use Rattle.machine.proofs.Memory.{find-is, length_added, added_same, entries_added, length_removed, removed_same, entries_removed}
-use Rattle.frame.specs.code.Turning.{Turning, after, broken, ends, settled}
+use Rattle.frame.specs.code.Turning.{Turning, after, ends, settled}
 use Rattle.frame.specs.code.Operations.{with_number}
 use Rattle.records.specs.code.Published.{with_entries, found, moved_to, move_to_of, taken_out, move_from_of, global_at, global_of, exists_of}
 use Rattle.frame.proofs.Meaning.{outcome_of, doing, Stands, Kept}

@@ -23,7 +23,8 @@ fn with_entries(mut s: State, n: u8) -> State
 fn found(s: State, cells: &[u64], y: u8) -> Option<u8>
     ensures { result ≡ place_below s.entries (found (cells_of cells.now) s y (number_of (top_at (cells_of cells.now) s 0))) }
 {
-    entries::find(cells, s.entries, y, s.number(cells, 0))
+    let i = entries::find(cells, s.entries, y, s.number(cells, 0));
+    if i < s.entries { Some(i) } else { None }
 }
 
 // The word of the record of entry i, of type y, and of a reference to it.

@@ -10,9 +10,8 @@ use native.Mathlib.Omega.{arith}
 use native.Mathlib.Decide.{dec_lt, ℕ_discrete}
 use borrow.Author.Tests.{lt-ltb, le-ltb, eq-eqb, ne_eqb}
 use lib.Dec.{eqb, ltb}
-use lib.ListN.{get_or, set, drop, get_elem? as nth, length-set, get_or-eq_default}
+use lib.ListN.{get_or, set, drop, get_elem? as nth, length-set}
 use lib.Seq.{get_or-set_other}
-use Rattle.semantics.specs.Limits.{stale_reference}
 use Rattle.semantics.proofs.Changes.{clash}
 use Rattle.state.specs.declared.Reference.{Reference}
 use Rattle.state.specs.declared.Reference.TheVariants.{Local, Field, Record as Whole}
@@ -29,7 +28,7 @@ use Rattle.machine.specs.code.Machine.{mbroken, MFrame, mframe, mroom, mstate, M
 use Rattle.machine.specs.code.Views.{up_from, down_from, operands_in, locals_in, below_in, rooms_in, entries_in, Same}
 use Rattle.machine.proofs.Views.{length-below, below-same, rooms_same, entries-same, down_same, up_same, set_same, up_set, top-is, second_is, drop-is}
 use Rattle.machine.proofs.Memory.{head_in, up_held, head_past, room_of_lem, field_put}
-use Rattle.frame.specs.code.Turning.{Turning, after, broken}
+use Rattle.frame.specs.code.Turning.{Turning, after}
 use Rattle.frame.specs.code.Operations.{with_number}
 use Rattle.references.specs.code.Targets.{Target, ToNumber, ToRecord, Stale, Impossible, local_of, local_in, in_room, in_cell, in_local, held_in, in_place, target_of, target_by, target_top, read_at, read_of, borrowed_as, borrowed_in, borrow_field_of, written_at, write_of}
 use Rattle.frame.proofs.Meaning.{outcome_of, doing, Stands, Kept}

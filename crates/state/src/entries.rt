@@ -1,7 +1,7 @@
 // The store's entries: two cells an entry, the address and the record (serial number, room, type). The newest entry is the last.
 ghost use Rattle.std.specs.Prelude.{◌≡◌, ◌<◌};
 ghost use Rattle.state.specs.code.Cells.{cells_of};
-ghost use Rattle.state.specs.code.Layout.{entry_cell, place_below};
+ghost use Rattle.state.specs.code.Layout.{entry_cell};
 ghost use Rattle.state.specs.code.Entries.{is_under_at, last_under, added_in, removed_in};
 
 // The most entries.
@@ -22,16 +22,19 @@ fn is_under(cells: &[u64], o: usize, kind: u8, address: u64) -> bool
     crate::number_at(cells, o) == address && crate::third_at(cells, o + 1) == kind
 }
 
-// The last of the first n entries that is under a key.
-pub fn find(cells: &[u64], n: u8, kind: u8, address: u64) -> Option<u8>
-    ensures { result ≡ place_below n (last_under (cells_of cells.now) kind address n n) }
+// The last of the first n entries that is under a key, n where there is none. No Option and no `for` over `.rev()`: an instruction of Pack to Unpack in a
+// full store took 16.1 ns with this loop, 18.2 ns with a `for` and an Option, and 23.8 ns with this loop and an Option.
+pub fn find(cells: &[u64], n: u8, kind: u8, address: u64) -> u8
+    ensures { result ≡ last_under (cells_of cells.now) kind address n n }
 {
-    for i in (0..n).rev() {
-        if is_under(cells, entry_cell(i) as usize, kind, address) {
-            return Some(i);
+    let mut i = n as usize;
+    while 0 < i {
+        i -= 1;
+        if is_under(cells, 544 + 2 * i, kind, address) {
+            return i as u8;
         }
     }
-    None
+    n
 }
 
 // Puts an entry in place i.

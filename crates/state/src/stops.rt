@@ -1,4 +1,6 @@
-// Why a call ended, by the numbers that the text tells. The stops of documents 01 and 02 have their names in the rules (semantics/specs/Limits).
+// Why a call ended, by the numbers that the text tells. The stops of documents 01 and 02 have their names in the rules (semantics/specs/Limits). A State
+// keeps the number in a byte, 0 while the call runs: with an Option<Stop> in its place each instruction took a quarter longer (arithmetic 7.9 to 9.9 ns,
+// Call and Ret 8.9 to 11.6 ns).
 ghost use Rattle.std.specs.Prelude.{◌≡◌};
 ghost use Rattle.state.specs.code.Stops.{number_of};
 
