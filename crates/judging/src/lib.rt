@@ -6,9 +6,8 @@ ghost use Rattle.table.specs.Verdicts.{verdict_of};
 ghost use Rattle.judging.specs.Judging.{judge_of};
 ghost use Rattle.judging.specs.code.Files.{file_if, judge_by};
 
-use table::format;
-use table::index;
 use table::refusals::Refusal;
+use table::{format, index};
 
 // Judges a table without a rule file: the passes in order, over one index.
 pub fn judge_table(table: &[u8]) -> Result<usize, Refusal>

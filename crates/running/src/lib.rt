@@ -11,8 +11,8 @@ ghost use Rattle.running.specs.code.Lists.{results_in, end_line, line_of, text_i
 use interpreter::Ran;
 use state::frames::State;
 use state::stops::Stop;
-use table::index::Index;
 use table::format;
+use table::index::Index;
 use table::refusals::{Reason, Refusal};
 use text::Writer;
 

@@ -14,7 +14,7 @@ answer_of-requires c =
     let a = c.args in
     let ran : verdict_of c.run_list.result ≡ (run_of a.has a.rules.now a.table.now a.list.now a.text.now).answer = c.run_list.ensures.0 ∙ rw c.rules_if.ensures (ap (λ (r : Ran). r.answer) (run_file a.has a.rules.now a.table.now a.list.now a.text.now)) in
     let small : value_of (verdict_of c.run_list.result) ≤ 65536 =
-        rw ran (run_small a.has a.rules.now a.table.now a.list.now a.text.now (λ i. omega (arith, c.shared_slice_known-1.given i)) (λ i. omega (arith, c.shared_slice_known-2-1.given i))) in
+    rw ran (run_small a.has a.rules.now a.table.now a.list.now a.text.now (λ i. omega (arith, c.shared_slice_known-1.given i)) (λ i. omega (arith, c.shared_slice_known-2-1.given i))) in
     omega arith
 
 pub returns : goal.returns

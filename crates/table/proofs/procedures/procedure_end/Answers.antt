@@ -12,9 +12,10 @@ loop-i-init c = (omega arith, refl)
 pub returns-then-kind-eq-MODULE : goal.returns-then-kind-eq-MODULE
 returns-then-kind-eq-MODULE c =
     let ends : ends_procedure c.args.table.now c.loop-i.i ≡ true = elim c.then-kind-eq-MODULE.branch [
-      then-kind-eq-MODULE-via-then-kind-eq-MODULE w ↦ ends_module _ _ (is-kind _ _ _ c.kind_at-kind.ensures w.if-kind-eq-MODULE.true)
-    | then-kind-eq-MODULE-via-else-kind-eq-MODULE+then-kind-eq-PROCEDURE w ↦
-        ends-procedure _ _ (not-kind _ _ _ c.kind_at-kind.ensures w.if-kind-eq-MODULE.false) (is-kind _ _ _ c.kind_at-kind.ensures w.if-kind-eq-PROCEDURE.true) ] in
+      | then-kind-eq-MODULE-via-then-kind-eq-MODULE w ↦ ends_module _ _ (is-kind _ _ _ c.kind_at-kind.ensures w.if-kind-eq-MODULE.true)
+      | then-kind-eq-MODULE-via-else-kind-eq-MODULE+then-kind-eq-PROCEDURE w ↦
+          ends-procedure _ _ (not-kind _ _ _ c.kind_at-kind.ensures w.if-kind-eq-MODULE.false) (is-kind _ _ _ c.kind_at-kind.ensures w.if-kind-eq-PROCEDURE.true)
+    ] in
     sym (c.loop-i.invariant.1 ∙ end-here _ _ (omega arith) ends)
 
 pub loop-i-preserved : goal.loop-i-preserved
