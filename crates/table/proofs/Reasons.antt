@@ -1,6 +1,6 @@
 -- A reason is a fault: its number is not 0. So a pass that comes to a row with a reason stops there.
 use Prim.Native.Nat.{ℕ, ◌<◌}
-use mathlib.Core.Path.{◌≡◌, sym, ◌∙◌}
+use mathlib.Core.Path.{◌≡◌, sym}
 use native.Mathlib.Omega.{arith}
 use Rattle.laws.proofs.First.{from, faulty_with}
 use Rattle.table.specs.declared.refusals.Reason.{Reason}

@@ -1,12 +1,11 @@
-use Prim.Native.Nat.{ℕ, ◌*◌, ◌≤◌}
-use mathlib.Core.Path.{◌≡◌, refl, sym, ap, ◌∙◌}
+use Prim.Native.Nat.{ℕ}
+use mathlib.Core.Path.{refl, ap, ◌∙◌}
 use mathlib.Core.Bool.{false}
 use native.Mathlib.Omega.{arith}
 use borrow.Author.Rules.{rules}
-use lib.ListN.{length, replicate}
+use lib.ListN.{replicate}
 use Rattle.reach.proofs.Laws.{count-le}
-use Rattle.table.specs.Rows.{row_count}
-use Rattle.locals.proofs.Laws.{Waiting, start-below, after-below, local-start, local-sized, local-still, local-rests, local-tail, local-room, local-queued, local-next, local-found}
+use Rattle.locals.proofs.Laws.{start-below, after-below, local-start, local-sized, local-still, local-rests, local-tail, local-room, local-queued, local-next, local-found}
 use Rattle.locals.proofs.spread_local.Goals as goal
 
 pub loop-next-init : goal.loop-next-init

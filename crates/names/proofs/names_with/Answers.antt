@@ -3,7 +3,6 @@ use mathlib.Core.Path.{◌≡◌, refl, sym, ◌∙◌}
 use mathlib.Core.Bool.{cond}
 use native.Mathlib.Omega.{arith}
 use borrow.Author.Tests.{ne_eqb}
-use borrow.Author.Rules.{rules}
 use lib.Dec.{eqb}
 use lib.ListN.{length}
 use Rattle.laws.specs.Lists.{count, hits}
@@ -13,7 +12,7 @@ use Rattle.table.specs.Verdicts.{Accepted, Refused}
 use Rattle.table.specs.Format.{type_kind, procedure_kind}
 use Rattle.table.specs.Rows.{is_kind}
 use Rattle.table.proofs.Reasons.{stops_at}
-use Rattle.declarations.specs.Program.{type_in, procedure_in}
+use Rattle.declarations.specs.Program.{procedure_in}
 use Rattle.names.specs.Names.{names_with}
 use Rattle.names.proofs.Laws.{count_next, own-next, fault_here}
 use Rattle.names.proofs.names_with.Goals as goal

@@ -1,11 +1,10 @@
 use Prim.Native.Nat.{ℕ, ◌+◌, ◌/◌}
 use mathlib.Core.Path.{◌≡◌, sym, ◌∙◌}
 use native.Mathlib.Omega.{arith}
-use borrow.Author.Rules.{rules}
 use lib.ListN.{length}
 use Rattle.laws.proofs.First.{fine, faulty_with, done, whole}
 use Rattle.table.specs.Verdicts.{Accepted, Refused}
-use Rattle.declarations.specs.Program.{procedure_in, code_verdict}
+use Rattle.declarations.specs.Program.{code_verdict}
 use Rattle.policy.proofs.Laws.{other_fault, call-fault}
 use Rattle.policy.proofs.judge_code.Goals as goal
 use Rattle.policy.proofs.judge_code.Goals.{else-row-eq-CALL, then-row-eq-CALL+else-not-may_call}

@@ -3,7 +3,6 @@ use mathlib.Core.Path.{◌≡◌, ap, ◌∙◌}
 use native.Mathlib.Omega.{arith}
 use Rattle.table.specs.Verdicts.{value_of, verdict_of}
 use Rattle.judging.specs.Judging.{judge_under, answer_of}
-use Rattle.judging.specs.code.Files.{judge_by}
 use Rattle.judging.proofs.Under.{by_file, under_small}
 use Rattle.yithrel.proofs.yithrel_judge.Goals as goal
 

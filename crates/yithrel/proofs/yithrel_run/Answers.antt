@@ -4,7 +4,6 @@ use native.Mathlib.Omega.{arith}
 use Rattle.table.specs.Verdicts.{value_of, verdict_of}
 use Rattle.semantics.specs.Run.{Ran, run_of}
 use Rattle.judging.specs.Judging.{answer_of}
-use Rattle.running.specs.code.Lists.{run_by}
 use Rattle.running.proofs.Values.{run_small}
 use Rattle.running.proofs.Runs.{run_file}
 use Rattle.yithrel.proofs.yithrel_run.Goals as goal
