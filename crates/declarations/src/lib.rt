@@ -8,7 +8,8 @@ ghost use Rattle.declarations.specs.code.Limits.{over_limits};
 use table::index::{Index, ProcedureEntry, TypeEntry};
 use table::{Row, format};
 
-// Kinds: eight times the type, and the sort. Those without a type: a number and a reference to one.
+// Kinds: eight times the type, and the sort, as the rules have them: a row with any two bytes there has one (specs/Program: row_kind). Those without a type: a
+// number and a reference to one.
 pub const NUMBER: u32 = 0;
 
 pub const NUMBER_REF: u32 = 2;

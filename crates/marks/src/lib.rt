@@ -84,6 +84,7 @@ fn find_arrivals(arrives: &mut [bool], queue: &mut [u16], table: &[u8], entries:
     };
     visit_firsts(&mut search, table, entries);
     let mut head = 0;
+    // A queue that grows while it is read: no range tells its end.
     while head < search.tail {
         let r = search.queue[head] as usize;
         head += 1;
@@ -195,6 +196,7 @@ fn visit_results(search: &mut Traversal<'_>, sites: Sites<'_>, results: u16, sta
         return;
     }
     let mut at = start;
+    // A chain: each call site has the one before it, kept as its row plus one, and 0 ends it.
     while 0 < at {
         let row = at - 1;
         let arrived = sites.arrives[row];
@@ -294,6 +296,7 @@ fn search(
     };
     visit_made(&mut search, table, index, entries, sites.arrives);
     let mut head = 0;
+    // A queue that grows while it is read: no range tells its end.
     while head < search.tail {
         let u = search.queue[head] as usize;
         head += 1;

@@ -1,4 +1,5 @@
-// The numbers of document 01 by name: kinds, sorts, opcodes and limits. specs/Format.antt has the same names for the rules.
+// The numbers of document 01 by name: kinds, sorts, opcodes and limits. specs/Format.antt has the same names for the rules. They are bytes of a table, in which any
+// byte may stand: the rules tell what a row with any kind, sort or opcode earns, so that no enum has them all.
 
 // Bytes in a row.
 pub const ROW_BYTES: usize = 16;

@@ -123,6 +123,7 @@ pub fn index_of(table: &[u8]) -> Index
     let mut types = 0;
     let mut procedures = 0;
     let mut i = 0;
+    // A cursor and no count: it jumps past the rows of each type and procedure, of which a `for` would look at each twice.
     while i < n {
         let kind = crate::kind_at(table, i);
         match kind {
