@@ -56,9 +56,8 @@ extern "C" {
 /* The shortest buffer for the text of a run: no text is longer. */
 #define YITHREL_MIN_TEXT 65536
 
-/* Bytes of stack that are enough for a call of each function. yithrel_judge needs 260,900, whatever the table (measured over made tables of every kind and
- * tables at the limits), yithrel_run 316,100, whatever the table and the list (measured over made runs and runs at the limits). Measured with a kit before
- * rattle-kit-13f; not taken again since. */
+/* Bytes of stack that are enough for a call of each function. yithrel_judge needs 251,400, whatever the table (measured over made tables of every kind and
+ * tables at the limits), yithrel_run 308,300, whatever the table and the list (measured over made runs and runs at the limits). Measured with rattle-kit-13f. */
 #define YITHREL_JUDGE_STACK 262144
 #define YITHREL_RUN_STACK 327680
 
