@@ -103,7 +103,7 @@ fn bad_call(table: &[u8], procedures: usize, p: ProcedureEntry, row: Row, count:
         || bad_budget(row.c)
 }
 
-// The lowest number that row i of the list earns, or 0.
+// The lowest number that row i of the list earns, or none.
 fn list_fault(table: &[u8], list: &[u8], index: Index, i: usize) -> Option<Reason>
     ensures { fault_of result ≡ list_fault table.now index list.now i }
 {

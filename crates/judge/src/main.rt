@@ -4,7 +4,7 @@
 
 ghost use Rattle.std.specs.Prelude.{OnOk, option_copied};
 ghost use Rattle.std.specs.Io.KnownBytes.{Appends};
-ghost use Rattle.judging.specs.code.Files.{judge_by};
+ghost use Rattle.judging.specs.Files.{judge_by};
 ghost use Rattle.printing.specs.Lines.{verdict_line};
 
 use anyhow::Context;
@@ -12,20 +12,15 @@ use std::io;
 use std::io::Write;
 use std::rt::Files;
 
-// One byte more than the longest table, and than the longest rule file, so that a longer file is refused and not cut.
-const TABLE: usize = 32769;
-
-const RULES: usize = 4097;
-
 fn main(rt: HostRuntime) -> anyhow::Result<()> {
-    let mut table = [0u8; TABLE];
+    let mut table = [0u8; printing::TABLE];
     let n = printing::read_file(&rt, "table.bin", &mut table).context("table.bin")?;
     judge_table(&rt, &table[..n])
 }
 
 // Judges the table under the rule file, where there is one.
 fn judge_table(rt: &(impl Files + Print), table: &[u8]) -> anyhow::Result<()> {
-    let mut rules = [0u8; RULES];
+    let mut rules = [0u8; printing::RULES];
     let got = printing::read_if_there(rt, "rules.bin", &mut rules).context("rules.bin")?;
     let mut out = io::writer(rt);
     match got {

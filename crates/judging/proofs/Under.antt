@@ -23,7 +23,7 @@ use Rattle.leaks.specs.Leaks.{leaks_of}
 use Rattle.policy.specs.Policy.{file_of, rule_fault, pairs_of, call_fault, rules_with, rules_of}
 use Rattle.policy.proofs.Words.{wrong_length, length-good, file_refuses, pairs-number, calls-number}
 use Rattle.std.specs.Prelude.{Some, None}
-use Rattle.judging.specs.code.Files.{judge_by, file_if}
+use Rattle.judging.specs.Files.{judge_by, file_if}
 use Rattle.judging.specs.Judging.{judge_of, judge_under, in_order, passes}
 use Rattle.judging.proofs.Accepts.{accepted, accepting, code-rows}
 use Rattle.judging.proofs.Numbers.{length-number, rows-number, later_refusals, after-rows, other}

@@ -1,3 +1,3 @@
 pub mod Judging
 pub mod Before
-pub mod code
+pub mod Files

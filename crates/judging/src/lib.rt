@@ -4,7 +4,7 @@
 ghost use Rattle.std.specs.Prelude.{◌≡◌, option_copied};
 ghost use Rattle.table.specs.Verdicts.{verdict_of};
 ghost use Rattle.judging.specs.Judging.{judge_of};
-ghost use Rattle.judging.specs.code.Files.{file_if, judge_by};
+ghost use Rattle.judging.specs.Files.{file_if, judge_by};
 
 use table::refusals::Refusal;
 use table::{format, index};

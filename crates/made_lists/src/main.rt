@@ -7,23 +7,12 @@ use anyhow::Context;
 use std::io::{Read, Write};
 use std::{fs, io};
 
-// The longest table, list, rule file and buffer that a file may hold, and the most cases.
-const TABLE: usize = 65536;
-
-const LIST: usize = 8192;
-
-const RULES: usize = 8192;
-
-const TEXT: usize = 131072;
-
-const MOST: usize = 100000;
-
 fn main(rt: HostRuntime) -> anyhow::Result<()> {
     let mut file = fs::open(&rt, "cases.bin").context("cases.bin")?;
-    let mut table = [0u8; TABLE];
-    let mut list = [0u8; LIST];
-    let mut rules = [0u8; RULES];
-    let mut text = [0u8; TEXT];
+    let mut table = [0u8; printing::MADE_TABLE];
+    let mut list = [0u8; printing::MADE_LIST];
+    let mut rules = [0u8; printing::MADE_RULES];
+    let mut text = [0u8; printing::MADE_TEXT];
     run_all(
         &mut file,
         &mut io::writer(&rt),
@@ -43,7 +32,7 @@ fn run_all<R: Read, W: Write>(
     rules: &mut [u8],
     text: &mut [u8],
 ) -> anyhow::Result<()> {
-    for k in 0..MOST {
+    for k in 0..printing::MADE_CASES {
         if !run_next(file, out, k, table, list, rules, text)? {
             break;
         }

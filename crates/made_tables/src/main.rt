@@ -6,17 +6,10 @@ use anyhow::Context;
 use std::io::{Read, Write};
 use std::{fs, io};
 
-// The longest table and the longest rule file that a file may hold, and the most tables.
-const TABLE: usize = 65536;
-
-const RULES: usize = 8192;
-
-const MOST: usize = 100000;
-
 fn main(rt: HostRuntime) -> anyhow::Result<()> {
     let mut file = fs::open(&rt, "tables.bin").context("tables.bin")?;
-    let mut table = [0u8; TABLE];
-    let mut rules = [0u8; RULES];
+    let mut table = [0u8; printing::MADE_TABLE];
+    let mut rules = [0u8; printing::MADE_RULES];
     judge_all(&mut file, &mut io::writer(&rt), &mut table, &mut rules)
 }
 
@@ -27,7 +20,7 @@ fn judge_all<R: Read, W: Write>(
     table: &mut [u8],
     rules: &mut [u8],
 ) -> anyhow::Result<()> {
-    for _ in 0..MOST {
+    for _ in 0..printing::MADE_CASES {
         if !judge_next(file, out, table, rules)? {
             break;
         }

@@ -39,6 +39,24 @@ pub fn print_run<W: Write>(
     }
 }
 
+// One byte more than the longest table, list of calls and rule file, so that a longer file is refused and not cut.
+pub const TABLE: usize = 32769;
+
+pub const LIST: usize = 4097;
+
+pub const RULES: usize = 4097;
+
+// The longest table, list, rule file and buffer of a file of made cases, and the most cases.
+pub const MADE_TABLE: usize = 65536;
+
+pub const MADE_LIST: usize = 8192;
+
+pub const MADE_RULES: usize = 8192;
+
+pub const MADE_TEXT: usize = 131072;
+
+pub const MADE_CASES: usize = 100000;
+
 // How often a read that a signal interrupts is asked again.
 const TRIES: usize = 1000;
 
@@ -127,14 +145,7 @@ pub fn next_number<R: Read>(file: &mut R) -> io::Result<Option<usize>>
 fn number_of(head: &[u8; 4]) -> usize
     ensures { result ≡ le head.now 0 4 }
 {
-    wide(head[0]) + 256 * wide(head[1]) + 65536 * wide(head[2]) + 16777216 * wide(head[3])
-}
-
-fn wide(x: u8) -> usize
-    ensures value { result ≡ x }
-    ensures byte { result < 256 }
-{
-    x as usize
+    u32::from_le_bytes(*head) as usize
 }
 
 // The next part of a file, its length and then its bytes, which are read to the buffer's start: its length. A length above the buffer's says that the part is

@@ -4,8 +4,7 @@
 
 ghost use Rattle.std.specs.Prelude.{OnOk, replicate, option_copied};
 ghost use Rattle.std.specs.Io.KnownBytes.{Appends};
-ghost use Rattle.semantics.specs.Run.{min_text};
-ghost use Rattle.running.specs.code.Lists.{run_by};
+ghost use Rattle.semantics.specs.Run.{min_text, run_by};
 ghost use Rattle.printing.specs.Lines.{printed_of};
 
 use anyhow::Context;
@@ -13,16 +12,9 @@ use std::io;
 use std::io::Write;
 use std::rt::Files;
 
-// One byte more than the longest table, list and rule file, so that a longer file is refused and not cut.
-const TABLE: usize = 32769;
-
-const LIST: usize = 4097;
-
-const RULES: usize = 4097;
-
 fn main(rt: HostRuntime) -> anyhow::Result<()> {
-    let mut table = [0u8; TABLE];
-    let mut list = [0u8; LIST];
+    let mut table = [0u8; printing::TABLE];
+    let mut list = [0u8; printing::LIST];
     let n = printing::read_file(&rt, "table.bin", &mut table).context("table.bin")?;
     let k = printing::read_file(&rt, "calls.bin", &mut list).context("calls.bin")?;
     run_files(&rt, &table[..n], &list[..k])
@@ -30,7 +22,7 @@ fn main(rt: HostRuntime) -> anyhow::Result<()> {
 
 // Runs the list over the table, judged under the rule file, where there is one.
 fn run_files(rt: &(impl Files + Print), table: &[u8], list: &[u8]) -> anyhow::Result<()> {
-    let mut rules = [0u8; RULES];
+    let mut rules = [0u8; printing::RULES];
     let got = printing::read_if_there(rt, "rules.bin", &mut rules).context("rules.bin")?;
     let mut out = io::writer(rt);
     match got {

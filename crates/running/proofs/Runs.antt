@@ -9,16 +9,16 @@ use Rattle.table.specs.Verdicts.{Verdict, Accepted, Refused}
 use Rattle.table.specs.declared.index.Index.{Index}
 use Rattle.table.specs.Index.{index_of}
 use Rattle.judging.specs.Judging.{judge_under}
-use Rattle.judging.specs.code.Files.{file_if}
+use Rattle.judging.specs.Files.{file_if}
 use Rattle.judging.proofs.Under.{by_file, without, under_accepts}
 use Rattle.acceptance.specs.Judged.{Bytes}
 use Rattle.semantics.specs.Calls.{list_of}
 use Rattle.semantics.specs.Text.{text_of}
-use Rattle.semantics.specs.Run.{min_text, buffer_of, history_of, answer_with, run_of}
+use Rattle.semantics.specs.Run.{min_text, buffer_of, history_of, answer_with, run_of, run_by}
 use Rattle.semantics.proofs.Lengths.{text_fits}
 use Rattle.text.specs.code.Placing.{placed}
 use Rattle.text.proofs.Placing.{placed_fits}
-use Rattle.running.specs.code.Lists.{text_in, run_by}
+use Rattle.running.specs.code.Lists.{text_in}
 use Rattle.running.proofs.Follows.{text_is}
 
 -- the file of a call from C

@@ -4,9 +4,10 @@
 
 ghost use Rattle.std.specs.Prelude.{◌≡◌, option_copied};
 ghost use Rattle.table.specs.Verdicts.{verdict_of};
+ghost use Rattle.semantics.specs.Run.{run_by};
 ghost use Rattle.text.specs.code.Placing.{placed, Puts};
 ghost use Rattle.state.specs.code.Cells.{cells_of};
-ghost use Rattle.running.specs.code.Lists.{results_in, end_line, line_of, text_in, run_by};
+ghost use Rattle.running.specs.code.Lists.{results_in, end_line, line_of, text_in};
 
 use interpreter::Ran;
 use state::frames::State;

@@ -1,10 +1,11 @@
 -- Running a list of calls over a table (document 01): judge the table, under a rule file where there is one, then the list, then the buffer, and only
 -- then call.
-use Rattle.std.specs.Prelude.{ℕ, cond, List, ◌++◌, ltb, length, drop}
+use Rattle.std.specs.Prelude.{ℕ, cond, Option, List, ◌++◌, ltb, length, drop}
 use Rattle.table.specs.Verdicts.{Verdict, Accepted, Refused, and_then}
 use Rattle.table.specs.Index.{index_of}
 use Rattle.table.specs.Refusals.{small_buffer}
 use Rattle.judging.specs.Judging.{judge_under}
+use Rattle.judging.specs.Files.{has_of, bytes_of}
 use Rattle.semantics.specs.Calls.{list_of, calls_of}
 use Rattle.semantics.specs.History.{Event, history, nothing}
 use Rattle.semantics.specs.Text.{text_of}
@@ -40,3 +41,7 @@ run_of has r t l buffer =
     let text = text_of (history_of t l) in
     let answer = answer_with has r t l buffer text in
     record { answer = answer; buffer = buffer_with answer buffer text }
+
+-- the same, under a rule file that may be missing
+abbrev pub run_by : Option (List ℕ) → List ℕ → List ℕ → List ℕ → Ran
+run_by rules t l buffer = run_of (has_of rules) (bytes_of rules) t l buffer

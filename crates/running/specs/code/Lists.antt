@@ -1,12 +1,10 @@
 -- A list of calls by the interpreter's account, for any table, index and list.
-use Rattle.std.specs.Prelude.{ℕ, ◌+◌, ◌-◌, Bool, false, cond, Option, List, [], ◌∷◌, ◌++◌, map, eqb, leb, get_or, take, replicate}
+use Rattle.std.specs.Prelude.{ℕ, ◌+◌, ◌-◌, Bool, false, cond, List, [], ◌∷◌, ◌++◌, map, eqb, leb, get_or, take, replicate}
 use Rattle.table.specs.declared.index.Index.{Index}
 use Rattle.declarations.specs.Program.{procedure_in}
-use Rattle.judging.specs.code.Files.{has_of, bytes_of}
 use Rattle.semantics.specs.Machine.{num, state, finished, stopped}
 use Rattle.semantics.specs.Calls.{Call, calls_of}
 use Rattle.semantics.specs.Text.{call_line}
-use Rattle.semantics.specs.Run.{Ran, run_of}
 use Rattle.state.specs.declared.Operand.{Operand}
 use Rattle.state.specs.declared.Operand.TheVariants.{Empty}
 use Rattle.state.specs.declared.frames.State.{State}
@@ -62,7 +60,3 @@ module _ (t : List ℕ) (ix : Index) where
 
   unfoldable pub text_in : List ℕ → List ℕ
   text_in l = text_from 0 (calls_of l) false all_empty all_empty start
-
--- a run under a rule file that may be missing
-abbrev pub run_by : Option (List ℕ) → List ℕ → List ℕ → List ℕ → Ran
-run_by rules t l buffer = run_of (has_of rules) (bytes_of rules) t l buffer

@@ -1,4 +1,4 @@
--- A rule file that may be missing, as the rules have it: `has` is 1 where there is one, else 0, and then no bytes are looked at.
+-- A rule file that may be missing: `has` is 1 where there is one, else 0, and then no bytes are looked at.
 use Rattle.std.specs.Prelude.{ℕ, List, [], Option, Some, None, eqb, cond}
 use Rattle.table.specs.Verdicts.{Verdict}
 use Rattle.judging.specs.Judging.{judge_under}
