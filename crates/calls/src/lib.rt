@@ -104,8 +104,8 @@ fn bad_call(table: &[u8], procedures: usize, p: ProcedureEntry, row: Row, count:
 }
 
 // The lowest number that row i of the list earns, or none.
-fn list_fault(table: &[u8], list: &[u8], index: Index, i: usize) -> Option<Reason>
-    ensures { fault_of result ≡ list_fault table.now index list.now i }
+fn list_fault(table: &[u8], list: &[u8], index: &Index, i: usize) -> Option<Reason>
+    ensures { fault_of result ≡ list_fault table.now index.now list.now i }
 {
     let row = table::row_at(list, i);
     if bad_form(row, i) {
@@ -115,7 +115,7 @@ fn list_fault(table: &[u8], list: &[u8], index: Index, i: usize) -> Option<Reaso
         && bad_call(
             table,
             index.procedures,
-            declarations::procedure_in(&index, row.b as usize),
+            declarations::procedure_in(index, row.b as usize),
             row,
             argument_count(list, i),
         )
@@ -134,7 +134,7 @@ pub fn list_verdict(table: &[u8], list: &[u8], index: Index) -> Result<usize, Re
     }
     let n = list.len() / format::ROW_BYTES;
     for i in 0..n {
-        if let Some(reason) = list_fault(table, list, index, i) {
+        if let Some(reason) = list_fault(table, list, &index, i) {
             return Err(reason.at(i));
         }
     }

@@ -15,14 +15,12 @@ use lib.Seq.{get_or-set_same, get_or-set_other}
 use Rattle.laws.specs.Lists.{none}
 use Rattle.laws.proofs.Tests.{and_both}
 use Rattle.table.specs.declared.Row.{Row}
-use Rattle.table.specs.declared.refusals.Reason.{Reason}
-use Rattle.table.specs.Verdicts.{number_of_reason, fault_of}
 use Rattle.table.specs.declared.index.TypeEntry.{TypeEntry}
 use Rattle.table.specs.declared.index.ProcedureEntry.{ProcedureEntry}
 use Rattle.table.specs.Format.{max_operands, past_opcodes}
 use Rattle.table.specs.Rows.{row_at}
 use Rattle.declarations.specs.Program.{row_kind, kinds_from, kinds_of, is_reference, is_writable}
-use Rattle.effects.specs.Kinds.{Kinds, good, bad, kinds_or, failed, taken, pushed, top_of, fault_after, top_first}
+use Rattle.effects.specs.Kinds.{Kinds, good, bad, kinds_or, fault_by, failed, taken, pushed, top_of, fault_after, top_first}
 use Rattle.effects.specs.Effects.{Effect, effects, effect_of, no_effect, applied, kinds_after}
 
 suc-eqb : (n : ℕ) → eqb (suc n) 0 ≡ false
@@ -60,51 +58,83 @@ unfolding top_first
 top_set ks zero j v l = refl
 top_set ks (suc h) j v l = rw (get_or-set_other ks j h v 0 (λ e. omega arith), top_set ks h j v (omega arith))
 
--- a reason's number is not 0, so that a fault shows
-pub bad_for : (ks : List ℕ) (r : Reason) → kinds_or (number_of_reason r) ks ≡ bad (number_of_reason r)
-bad_for ks r = grind arith
-
--- what lent kinds and a stack of height h with fault f stand for, by the tests that the code makes
+-- what lent kinds and a stack of height h with fault f stand for, 0 for none
 module _ (ks : List ℕ) where
-  pub fail_is : (h : ℕ) (f : Option Reason) (r : Reason) → failed (number_of_reason r) (kinds_or (fault_of f) (top_first ks h)) ≡ kinds_or (fault_of (option_or f (Some r))) (top_first ks h)
+  pub fail_is : (h f g : ℕ) → failed g (kinds_or f (top_first ks h)) ≡ cond (eqb f 0) (kinds_or g (top_first ks h)) (kinds_or f (top_first ks h))
   unfolding failed
-  fail_is h None r = refl
-  fail_is h (Some q) r = rw bad_for
+  fail_is h zero g = refl
+  fail_is h (suc f) g = rw suc-eqb
 
-  pub top-is : (h : ℕ) (f : Option Reason) → top_of (kinds_or (fault_of f) (top_first ks h)) ≡ cond (is_some f) 0 (cond (eqb h 0) 0 (get_or ks (h - 1) 0))
+  pub top-is : (h f : ℕ) → top_of (kinds_or f (top_first ks h)) ≡ cond (eqb f 0) (cond (eqb h 0) 0 (get_or ks (h - 1) 0)) 0
   unfolding top_of top_first
-  top-is zero None = refl
-  top-is (suc h) None = rw (suc-eqb, suc_pred)
-  top-is h (Some r) = rw bad_for
+  top-is zero zero = refl
+  top-is (suc h) zero = rw (suc-eqb, suc_pred)
+  top-is h (suc f) = rw suc-eqb
 
-  pub take-is : (h : ℕ) (f : Option Reason) (k : ℕ) → taken k (kinds_or (fault_of f) (top_first ks h))
-      ≡ cond (is_some f) (kinds_or (fault_of f) (top_first ks h)) (cond (eqb h 0 || not (eqb (get_or ks (h - 1) 0) k)) (failed 7 (kinds_or (fault_of f) (top_first ks h))) (kinds_or (fault_of f) (top_first ks (h - 1))))
-  unfolding taken top_first failed
-  take-is zero None k = refl
-  take-is (suc h) None k = rw (suc-eqb, suc_pred) (go (eqb (get_or ks h 0) k))
-    where
-      go : (b : Bool) → cond b (good (top_first ks h)) (bad 7) ≡ cond (not b) (bad 7) (good (top_first ks h))
-      go true = refl
-      go false = refl
-  take-is h (Some r) k = rw bad_for
+  pub take-is : (h f k : ℕ) → taken k (kinds_or f (top_first ks h)) ≡ cond (eqb f 0) (cond (eqb h 0) (bad 7) (cond (eqb (get_or ks (h - 1) 0) k) (kinds_or f (top_first ks (h - 1))) (bad 7))) (kinds_or f (top_first ks h))
+  unfolding taken top_first
+  take-is zero zero k = refl
+  take-is (suc h) zero k = rw (suc-eqb, suc_pred)
+  take-is h (suc f) k = rw suc-eqb
 
-  pub push-is : length ks ≡ max_operands → (h : ℕ) (f : Option Reason) (k : ℕ) → pushed k (kinds_or (fault_of f) (top_first ks h))
-      ≡ cond (is_some f) (kinds_or (fault_of f) (top_first ks h)) (cond (ltb h max_operands) (kinds_or (fault_of f) (top_first (set ks h k) (h + 1))) (failed 8 (kinds_or (fault_of f) (top_first ks h))))
-  unfolding pushed top_first failed
-  push-is m h None k = rw (length-top ks h) (go (dec_lt h max_operands))
+  pub push-is : length ks ≡ max_operands → (h f k : ℕ) → pushed k (kinds_or f (top_first ks h)) ≡ cond (eqb f 0) (cond (ltb h max_operands) (kinds_or f (top_first (set ks h k) (h + 1))) (bad 8)) (kinds_or f (top_first ks h))
+  unfolding pushed top_first
+  push-is m h zero k = rw (length-top ks h) (go (dec_lt h max_operands))
     where
       go : Dec (h < max_operands) → cond (ltb h max_operands) (good (k ∷ top_first ks h)) (bad 8) ≡ cond (ltb h max_operands) (good (top_first (set ks h k) (h + 1))) (bad 8)
       go (yes l) = rw (add-one, get_or-set_same ks h k 0 (omega arith), top_set ks h h k (omega arith))
       go (no l) = rw (le-ltb h max_operands (omega arith))
-  push-is m h (Some r) k = rw bad_for
+  push-is m h (suc f) k = rw suc-eqb
 
-  pub fault_is : (h : ℕ) (f : Option Reason) (last other : Bool) → fault_after (kinds_or (fault_of f) (top_first ks h)) last other ≡ cond (is_some f) (fault_of f) (cond (last && not (eqb h 0)) 9 (cond other 10 0))
+  pub fault_is : (h f : ℕ) (last other : Bool) → fault_after (kinds_or f (top_first ks h)) last other ≡ cond (eqb f 0) (cond (last && not (eqb h 0)) 9 (cond other 10 0)) f
   unfolding fault_after top_first none
-  fault_is zero None last other = refl
-  fault_is (suc h) None last other = rw suc-eqb
-  fault_is h (Some r) last other = rw bad_for
+  fault_is zero zero last other = refl
+  fault_is (suc h) zero last other = rw suc-eqb
+  fault_is h (suc f) last other = rw suc-eqb
 
-pub ruleset views = (fail_is, top-is, take-is, push-is, fault_is)
+-- the same by the tests that the code makes, for a fault that may be there
+module _ {F : Type 0} (number : F → ℕ) (shows : (fault : F) → 0 < number fault) where
+  -- a fault's number is not 0, so that it shows
+  pub bad_for : (ks : List ℕ) (fault : F) → kinds_or (number fault) ks ≡ bad (number fault)
+  bad_for ks fault = go (number fault) (shows fault)
+    where
+      go : (f : ℕ) → 0 < f → kinds_or f ks ≡ bad f
+      go zero h = grind arith
+      go (suc f) h = refl
+
+  pub fail_tests : (ks : List ℕ) (h : ℕ) (f : Option F) (g : F) → failed (number g) (kinds_or (fault_by number f) (top_first ks h)) ≡ kinds_or (fault_by number (option_or f (Some g))) (top_first ks h)
+  unfolding failed
+  fail_tests ks h None g = fail_is ks h 0 (number g)
+  fail_tests ks h (Some fault) g = rw bad_for
+
+  pub top-tests : (ks : List ℕ) (h : ℕ) (f : Option F) → top_of (kinds_or (fault_by number f) (top_first ks h)) ≡ cond (is_some f) 0 (cond (eqb h 0) 0 (get_or ks (h - 1) 0))
+  unfolding top_of
+  top-tests ks h None = top-is ks h 0
+  top-tests ks h (Some fault) = rw bad_for
+
+  pub take-tests : (ks : List ℕ) (h : ℕ) (f : Option F) (k : ℕ) → taken k (kinds_or (fault_by number f) (top_first ks h))
+      ≡ cond (is_some f) (kinds_or (fault_by number f) (top_first ks h)) (cond (eqb h 0 || not (eqb (get_or ks (h - 1) 0) k)) (failed 7 (kinds_or (fault_by number f) (top_first ks h))) (kinds_or (fault_by number f) (top_first ks (h - 1))))
+  unfolding taken failed
+  take-tests ks h None k = take-is ks h 0 k ∙ go (eqb h 0) (eqb (get_or ks (h - 1) 0) k)
+    where
+      go : (a b : Bool) → cond a (bad 7) (cond b (good (top_first ks (h - 1))) (bad 7)) ≡ cond (a || not b) (bad 7) (good (top_first ks (h - 1)))
+      go true b = refl
+      go false true = refl
+      go false false = refl
+  take-tests ks h (Some fault) k = rw bad_for
+
+  pub push-tests : (ks : List ℕ) → length ks ≡ max_operands → (h : ℕ) (f : Option F) (k : ℕ) → pushed k (kinds_or (fault_by number f) (top_first ks h))
+      ≡ cond (is_some f) (kinds_or (fault_by number f) (top_first ks h)) (cond (ltb h max_operands) (kinds_or (fault_by number f) (top_first (set ks h k) (h + 1))) (failed 8 (kinds_or (fault_by number f) (top_first ks h))))
+  unfolding pushed failed
+  push-tests ks m h None k = push-is ks m h 0 k
+  push-tests ks m h (Some fault) k = rw bad_for
+
+  pub fault_tests : (ks : List ℕ) (h : ℕ) (f : Option F) (last other : Bool) → fault_after (kinds_or (fault_by number f) (top_first ks h)) last other ≡ cond (is_some f) (fault_by number f) (cond (last && not (eqb h 0)) 9 (cond other 10 0))
+  unfolding fault_after
+  fault_tests ks h None last other = fault_is ks h 0 last other
+  fault_tests ks h (Some fault) last other = rw bad_for
+
+pub ruleset views = (fail_tests, top-tests, take-tests, push-tests, fault_tests)
 
 -- the kinds that rows declare
 module _ (t : List ℕ) (from to : ℕ) where

@@ -1,9 +1,8 @@
 -- The kinds of the operands that are present in a procedure: the operand stack of the judge.
-use Rattle.std.specs.Prelude.{ℕ, zero, suc, Bool, cond, not, ◌&&◌, List, [], ◌∷◌, eqb, ltb, length, get_or}
+use Rattle.std.specs.Prelude.{ℕ, zero, suc, Bool, cond, not, ◌&&◌, List, [], ◌∷◌, Option, Some, None, eqb, ltb, length, get_or}
 use Rattle.laws.specs.Lists.{none}
 use Rattle.table.specs.Format.{max_operands}
 use Rattle.table.specs.Refusals.{wrong_operand, too_many_operands, operands_left, foreign_name}
-use Rattle.table.specs.Verdicts.{fault_of}
 use Rattle.declarations.specs.Program.{number}
 use Rattle.effects.specs.declared.Stack.{Stack}
 
@@ -57,6 +56,11 @@ unfoldable pub top_first : List ℕ → ℕ → List ℕ
 top_first ks zero = []
 top_first ks (suc h) = get_or ks h 0 ∷ top_first ks h
 
+-- the number of a stack's fault, 0 for none, by what gives a fault's number
+abbrev pub fault_by : {F : Type 0} → (F → ℕ) → Option F → ℕ
+fault_by fault_number None = 0
+fault_by fault_number (Some fault) = fault_number fault
+
 -- what lent kinds and a stack of the code stand for
-abbrev pub view : List ℕ → Stack → Kinds
-view ks s = kinds_or (fault_of s.fault) (top_first ks s.height)
+abbrev pub view : {F : Type 0} → (F → ℕ) → List ℕ → Stack F → Kinds
+view fault_number ks s = kinds_or (fault_by fault_number s.fault) (top_first ks s.height)

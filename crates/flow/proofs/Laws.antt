@@ -143,7 +143,7 @@ module _ (width n : ℕ) (row : Row) (i x : ℕ) where
           (Memᴰ.append_cases (first_of n row i) (rw (next-split n row i) at b.0))
 
 -- it is a small number
-followed_small : (n : ℕ) (row : Row) (i : ℕ) → n ≤ 256 → row.b < 65536 → i < 256 → followed_of n row i < 65536
+pub followed_small : (n : ℕ) (row : Row) (i : ℕ) → n ≤ 256 → row.b < 65536 → i < 256 → followed_of n row i < 65536
 unfolding followed_of
 followed_small n row i h k l = go (eqb row.a op_ret) (eqb row.a op_branch)
   where

@@ -13,7 +13,8 @@ use Rattle.state.specs.declared.Operand.TheVariants.{Empty}
 use Rattle.state.specs.declared.frames.State.{State}
 use Rattle.state.specs.declared.stops.Stop.{Stop}
 use Rattle.state.specs.code.Layout.{operand_cell, local_cell, room_cell}
-use Rattle.state.specs.code.Frames.{with_height, pushed_in, gone_to}
+use Rattle.state.specs.code.Frames.{with_height, pushed_in, gone_to, stopped_with}
+use Rattle.state.specs.code.Stops.{number_of}
 use Rattle.machine.specs.code.Machine.{mframe, mstate, mnext}
 use Rattle.machine.specs.code.Views.{up_from, down_from, operands_in, locals_in, below_in, rooms_in, entries_in, Same}
 use Rattle.machine.proofs.Views.{below-same, rooms_same, entries-same, length-pushed, pushed-same, push-operands, push-locals, drop-is}
@@ -33,8 +34,11 @@ kept cs ds s s' e h p q a b = (e, tidy, a, b)
       free_low = omega (arith, t.free_low);
     }
 
+pub stopped-kept : (cs : List Operand) (s : State) (n : ℕ) → Kept cs s (after (stopped_with s n) cs)
+stopped-kept cs s n = kept cs cs s _ refl (λ r l. refl) refl refl (omega arith) (omega arith)
+
 pub ends-kept : (cs : List Operand) (s : State) (n : Stop) → Kept cs s (ends cs s n)
-ends-kept cs s n = kept cs cs s _ refl (λ r l. refl) refl refl (omega arith) (omega arith)
+ends-kept cs s n = stopped-kept cs s (number_of n)
 
 module _ (cs : List Operand) (s : State) (st : Stands cs s) where
   -- The running frame goes on, in cells that hold the same below it, and in the suspended frames, the store and the rooms.

@@ -21,7 +21,7 @@ fn call_with(s: State, cells: &mut [u64], procedure: u16, k: u8, count: u8) -> S
     ensures { after result (cells_of cells.new) ≡ called_in (cells_of cells.old) s procedure k count }
 {
     if 15 <= s.depth {
-        return s.stopped(Stop::TooManyFrames);
+        return s.ended(Stop::TooManyFrames);
     }
     let caller = s.drop_top(k);
     caller.suspend(cells);
@@ -51,7 +51,7 @@ pub fn ret(s: State, cells: &mut [u64], own: ProcedureEntry) -> State
     ensures { after result (cells_of cells.new) ≡ ret_of (cells_of cells.old) s (own.code - own.results) }
 {
     if s.depth == 0 {
-        return s.stopped(Stop::Done);
+        return s.ended(Stop::Done);
     }
     return_to(s, cells, (steps::results_of(own) % 256) as u8)
 }
@@ -61,7 +61,7 @@ pub fn branch_cond(s: State, cells: &[u64], b: u16) -> State
     ensures { result ≡ branch_of (cells_of cells.now) s b }
 {
     if !s.has_number(cells, 0) {
-        return s.stopped(Stop::Broken);
+        return s.ended(Stop::Broken);
     }
     if s.number(cells, 0) == 0 {
         return s.drop_top(1).next();

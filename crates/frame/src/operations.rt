@@ -25,9 +25,9 @@ fn close(s: State, cells: &mut [u64], x: Result<u64, Failure>) -> State
 {
     match x {
         Ok(v) => settle(s, cells, 2, state::NUMBER, v),
-        Err(Failure::TooLarge) => s.stopped(Stop::TooLarge),
-        Err(Failure::BelowZero) => s.stopped(Stop::BelowZero),
-        Err(Failure::Unknown) => s.stopped(Stop::Broken),
+        Err(Failure::TooLarge) => s.ended(Stop::TooLarge),
+        Err(Failure::BelowZero) => s.ended(Stop::BelowZero),
+        Err(Failure::Unknown) => s.ended(Stop::Broken),
     }
 }
 

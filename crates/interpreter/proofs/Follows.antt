@@ -17,7 +17,7 @@ use Rattle.state.specs.declared.stops.Stop.{Stop}
 use Rattle.state.specs.declared.stops.Stop.TheVariants.{Done, BudgetSpent}
 use Rattle.state.specs.code.Stops.{number_of as stop_number}
 use Rattle.state.specs.code.Layout.{all_cells}
-use Rattle.state.specs.code.Frames.{stop_of, dropped, stopped_with}
+use Rattle.state.specs.code.Frames.{stop_of, dropped, ended_with}
 use Rattle.machine.specs.code.Machine.{MState, mstate, MOutcome, mnext, mfinished, mstopped, mbroken, topmost}
 use Rattle.machine.specs.code.Runs.{mstep, MEnd, mend, monward, mgo}
 use Rattle.machine.specs.code.Lists.{MBase, mbase}
@@ -104,10 +104,10 @@ module _ (k : ℕ) (cs : List Operand) (s : State) where
 
 module _ (t : List ℕ) (J : Judged t (index_of t)) where
   -- a call that ends here
-  ends-after : (left : ℕ) (k : Stop) (cs : List Operand) (s : State) → Going t left cs s → After left s cs (stopped_with s k)
+  ends-after : (left : ℕ) (k : Stop) (cs : List Operand) (s : State) → Going t left cs s → After left s cs (ended_with s k)
   ends-after left k cs s g = record { whole = g.stands.whole; tidy = tidied; rooms_low = g.rooms_low; stored = g.stands.stored; records_more = omega arith; frames_more = omega arith }
     where
-      tidied : Tidy cs (stopped_with s k)
+      tidied : Tidy cs (ended_with s k)
       tidied = record { in_use = g.stands.tidy.in_use; unused = g.stands.tidy.unused; free_low = g.stands.tidy.free_low }
 
   module _ (left : ℕ) (cs : List Operand) (s : State) (g : Going t (suc left) cs s) where
@@ -131,9 +131,9 @@ module _ (t : List ℕ) (J : Judged t (index_of t)) where
     finished-go : (b : Bool) → eqb (row t J cs s g.live).a 16 ≡ b → (turn : Turning) → Shape cs s b turn → (xs : List Operand) (v : MState) → outcome_of count turn ≡ mfinished xs v → Numbers xs
         → Ends t (suc left) s (onward turn (run_from t (index_of t) left)) (mend (view_of cs s) (mfinished xs v))
     finished-go b r turn (goes {s'} {cs'} o) xs v q n = let f = is-finished count cs' s' xs v q in absurd (omega (arith, f.0, o.runs_on, g.stands.running))
-    finished-go b r turn (stays k z) xs v q n = let f = is-finished count cs (stopped_with s k) xs v q in absurd (omega (arith, f.0, ltb-true done (stop_number k) z))
+    finished-go b r turn (stays k z) xs v q n = let f = is-finished count cs (ended_with s k) xs v q in absurd (omega (arith, f.0, ltb-true done (stop_number k) z))
     finished-go true r turn (finishes o) xs (mstate f fs rooms recs es m) q n =
-        let z = is-finished count cs (stopped_with s Done) xs (mstate f fs rooms recs es m) q in
+        let z = is-finished count cs (ended_with s Done) xs (mstate f fs rooms recs es m) q in
         let a = eqb-true _ 16 r in
         let w = returns t J cs s g.live a in
         ((refl, record { outermost = o; many = sym z.1; few = omega (arith, w.0, w.1); there = omega (arith, w.0, taken t J cs s g.live); numbers = n }, cc), ends-after (suc left) Done cs s g)
@@ -142,7 +142,7 @@ module _ (t : List ℕ) (J : Judged t (index_of t)) where
     stopped-go : (b : Bool) (turn : Turning) → Shape cs s b turn → (j : ℕ) → outcome_of count turn ≡ mstopped j → Ends t (suc left) s (onward turn (run_from t (index_of t) left)) (mend (view_of cs s) (mstopped j))
     stopped-go b turn (goes {s'} {cs'} o) j q = let f = is-stopped count cs' s' j q in absurd (f.1 (omega (arith, f.0, o.runs_on, g.stands.running)))
     stopped-go b turn (stays k z) j q =
-        let f = is-stopped count cs (stopped_with s k) j q in
+        let f = is-stopped count cs (ended_with s k) j q in
         let y : eqb (stop_number k) 0 ≡ false = ne_eqb (stop_number k) 0 (λ u. f.1 (sym f.0 ∙ u)) in
         rw y ((f.0, f.2, f.3, refl), ends-after (suc left) k cs s g)
     stopped-go true turn (finishes o) j q = absurd (clash (cc))
@@ -153,7 +153,7 @@ module _ (t : List ℕ) (J : Judged t (index_of t)) where
     next-go b turn (goes {s'} {cs'} o) k v q l rest =
         let f = is-next count cs' s' v q in
         rw (eq-eqb (stop_of s') 0 f.0) (more s' cs' (run_from t (index_of t) left cs' s') (mgo t (index_of t) left v) k (rw f.1 at (rest cs' s' (goes_on s' cs' f.0 o k (subst (Live t) (sym f.1) l)))))
-    next-go b turn (stays j z) k v q l rest = absurd (omega (arith, (is-next count cs (stopped_with s j) v q).0, ltb-true done (stop_number j) z))
+    next-go b turn (stays j z) k v q l rest = absurd (omega (arith, (is-next count cs (ended_with s j) v q).0, ltb-true done (stop_number j) z))
     next-go true turn (finishes o) k v q l rest = absurd (clash (cc))
 
     step-ends : (turn : Turning) → Shape cs s (eqb (row t J cs s g.live).a 16) turn → Kept cs s turn → (o : MOutcome) → outcome_of count turn ≡ o → LiveOutcome t o

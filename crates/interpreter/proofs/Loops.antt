@@ -16,7 +16,7 @@ use Rattle.state.specs.declared.Operand.{Operand}
 use Rattle.state.specs.declared.frames.State.{State}
 use Rattle.state.specs.declared.stops.Stop.TheVariants.{BudgetSpent}
 use Rattle.state.specs.code.Cells.{emptied}
-use Rattle.state.specs.code.Frames.{stop_of, stopped_with}
+use Rattle.state.specs.code.Frames.{stop_of, ended_with}
 use Rattle.frame.specs.code.Turning.{Turning, after}
 use Rattle.frame.specs.code.Control.{within}
 use Rattle.step.specs.code.Step.{turn_of}
@@ -36,7 +36,7 @@ module _ (t : List ℕ) (ix : Index) (cs : List Operand) (s : State) (left : ℕ
     run_on h = let n : left ≡ suc (left - 1) = omega arith in same ∙ ap (λ (k : ℕ). run_from t ix k cs s) n ∙ rw (← q, ← e, eq-eqb (stop_of s') 0 h)
 
   -- the budget is spent
-  pub run_spent : left ≤ 0 → {r : State} → r ≡ stopped_with s BudgetSpent → after r cs ≡ whole
+  pub run_spent : left ≤ 0 → {r : State} → r ≡ ended_with s BudgetSpent → after r cs ≡ whole
   unfolding run_from
   run_spent h e = let n : left ≡ 0 = omega arith in sym (same ∙ rw (n, e))
 

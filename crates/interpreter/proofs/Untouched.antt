@@ -16,8 +16,9 @@ use Rattle.state.specs.declared.frames.State.{State}
 use Rattle.state.specs.declared.stops.Stop.{Stop}
 use Rattle.state.specs.declared.stops.Stop.TheVariants.{Done, NoSuchKey, StaleReference, TooManyFrames, TooLarge as Large, BelowZero as Below, Broken}
 use Rattle.state.specs.code.Coding.{is_number, number_of, second_of}
+use Rattle.state.specs.code.Stops.{number_of as number_of_stop}
 use Rattle.state.specs.code.Layout.{operand_cell, suspended_cell}
-use Rattle.state.specs.code.Frames.{with_height, pushed_in, top_at, dropped, gone_to, gone_on, stopped_with, suspended_in, entered_in, resumed_at}
+use Rattle.state.specs.code.Frames.{with_height, pushed_in, top_at, dropped, gone_to, gone_on, stopped_with, ended_with, suspended_in, entered_in, resumed_at}
 use Rattle.state.specs.code.Cells.{held_at}
 use Rattle.state.specs.code.Rooms.{field_cell}
 use Rattle.machine.specs.code.Machine.{held}
@@ -42,8 +43,11 @@ module _ (cs : List Operand) (s : State) where
   pub stays : (s' : State) → s'.entries ≡ s.entries → s'.rooms ≡ s.rooms → Untouched cs s (after s' cs)
   stays s' e m = (e, m, same_refl cs 544 1824)
 
+  pub stopping : (k : ℕ) → Untouched cs s (after (stopped_with s k) cs)
+  stopping k = (refl, refl, same_refl cs 544 1824)
+
   pub ending : (k : Stop) → Untouched cs s (ends cs s k)
-  ending k = (refl, refl, same_refl cs 544 1824)
+  ending k = stopping (number_of_stop k)
 
   either : (b : Bool) (x y : Turning) → Untouched cs s x → Untouched cs s y → Untouched cs s (cond b x y)
   either true x y a b = a
@@ -136,7 +140,7 @@ module _ (cs : List Operand) (s : State) (st : Stands cs s) where
   pub branches : (b : ℕ) → Untouched cs s (after (branch_of cs s b) cs)
   branches b = go (is_number (top_at cs s 0)) (eqb (number_of (top_at cs s 0)) 0)
     where
-      go : (n z : Bool) → Untouched cs s (after (cond n (cond z (gone_on (dropped s 1)) (gone_to (dropped s 1) b)) (stopped_with s Broken)) cs)
+      go : (n z : Bool) → Untouched cs s (after (cond n (cond z (gone_on (dropped s 1)) (gone_to (dropped s 1) b)) (ended_with s Broken)) cs)
       go true true = stays cs s (gone_on (dropped s 1)) refl refl
       go true false = stays cs s (gone_to (dropped s 1) b) refl refl
       go false z = ending cs s Broken

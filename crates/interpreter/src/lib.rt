@@ -79,7 +79,7 @@ pub fn run(s: State, cells: &mut [u64], table: &[u8], index: Index, budget: u32)
         left = marked_by(left, row.a);
     }
     Ran {
-        state: now.stopped(Stop::BudgetSpent),
+        state: now.ended(Stop::BudgetSpent),
         same: is_unmarked(left),
     }
 }

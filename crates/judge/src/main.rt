@@ -31,6 +31,7 @@ fn judge_table(rt: &(impl Files + Print), table: &[u8]) -> anyhow::Result<()> {
 }
 
 // Judges the table and prints the verdict.
+#[tactic(auto, using(table::proofs::Reasons::told_is))]
 fn judge_under<W: Write>(out: &mut W, table: &[u8], rules: Option<&[u8]>) -> io::Result<()>
     ensures { OnOk result (Appends (W.contents out.old) (W.contents out.new) (verdict_line (judge_by (option_copied rules.entry) table.now))) }
 {

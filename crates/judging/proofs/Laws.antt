@@ -109,3 +109,5 @@ module _ (t : List ℕ) {n : ℕ} (form : Accepted n ≡ form_of t) {ix : Index}
         pub all-accept : {i : ℕ} → Accepted i ≡ leaks_of t → Accepted (row_count t) ≡ judge_of t
         unfolding in_order
         all-accept e = sym (locals-then ∙ accepted-here leaks_of [] t (sym e))
+
+pub ruleset leaking = (leaks-refuse)

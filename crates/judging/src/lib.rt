@@ -10,6 +10,7 @@ use table::refusals::Refusal;
 use table::{format, index};
 
 // Judges a table without a rule file: the passes in order, over one index.
+#[tactic(auto, using(crate::proofs::Laws::leaking))]
 pub fn judge_table(table: &[u8]) -> Result<usize, Refusal>
     ensures { verdict_of result ≡ judge_of table.now }
 {

@@ -34,6 +34,16 @@ length_prefix n m a h = ap length (take-replicate n m a h) ∙ length-replicate 
 pub prefix_there : {A : Type 0} (xs ys : List A) (n : ℕ) → length xs ≡ n → n ≤ length (xs ++ ys)
 prefix_there xs ys n e = omega (arith, e, length-append xs ys)
 
+-- marked operands
+module _ (marked : ℕ → Bool) where
+  pub some_first : (k : ℕ) (ks : List ℕ) → (eqb k number_ref && marked (length ks)) ≡ true → some_marked marked (k ∷ ks) ≡ true
+  unfolding some_marked
+  some_first k ks e = rw e
+
+  pub some_next : (k : ℕ) (ks : List ℕ) → (eqb k number_ref && marked (length ks)) ≡ false → some_marked marked ks ≡ false → some_marked marked (k ∷ ks) ≡ false
+  unfolding some_marked
+  some_next k ks e h = rw (e, h)
+
 -- marked operands that rows declare
 module _ (marked : ℕ → Bool) (t : List ℕ) (j to : ℕ) where
   pub some_none : to ≤ j → some_marked marked (kinds_of t j to) ≡ false

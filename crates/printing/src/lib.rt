@@ -7,30 +7,34 @@ ghost use Rattle.std.specs.Io.KnownBytes.{Appends, Consumes, IsAtEnd, Keeps};
 ghost use Rattle.laws.specs.Numbers.{le};
 ghost use Rattle.printing.specs.Lines.{verdict_line, printed_of};
 ghost use Rattle.printing.specs.Parts.{first_number, first_part, Loses};
-ghost use Rattle.table.specs.Verdicts.{verdict_of};
+ghost use Rattle.table.specs.Verdicts.{told};
 
 use std::io::{ErrorKind, Read, Write};
 use std::rt::Files;
 use std::{fs, io};
-use table::refusals::Refusal;
+use table::refusals::Told;
 
 // `accepted ROWS` or `refused N row R`, and the end of the line.
-pub fn print_verdict<W: Write>(out: &mut W, verdict: Result<usize, Refusal>) -> io::Result<()>
-    ensures { OnOk result (Appends (W.contents out.old) (W.contents out.new) (verdict_line (verdict_of verdict))) }
+pub fn print_verdict<W: Write, R: Told>(out: &mut W, verdict: Result<usize, R>) -> io::Result<()>
+    ensures { OnOk result (Appends (W.contents out.old) (W.contents out.new) (verdict_line (told R.tells verdict))) }
 {
     match verdict {
         Ok(rows) => writeln!(out, "accepted {rows}"),
-        Err(refusal) => writeln!(out, "{refusal}"),
+        Err(refusal) => {
+            let number = refusal.number();
+            let row = refusal.row();
+            writeln!(out, "refused {number} row {row}")
+        }
     }
 }
 
 // The text of a run, which stands at the buffer's start, or the line of its refusal.
-pub fn print_run<W: Write>(
+pub fn print_run<W: Write, R: Told>(
     out: &mut W,
-    answer: Result<usize, Refusal>,
+    answer: Result<usize, R>,
     text: &[u8],
 ) -> io::Result<()>
-    ensures { OnOk result (Appends (W.contents out.old) (W.contents out.new) (printed_of (verdict_of answer) text.now)) }
+    ensures { OnOk result (Appends (W.contents out.old) (W.contents out.new) (printed_of (told R.tells answer) text.now)) }
 {
     match answer {
         Ok(size) if size <= text.len() => out.write_all(&text[..size]),

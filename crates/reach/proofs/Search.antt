@@ -7,7 +7,7 @@ use mathlib.Core.Bool.{Bool, true, false, not, ◌&&◌, false≢true, and-false
 use mathlib.Core.Logic.{◌⊎◌, ⊎_elim}
 use native.Mathlib.Decide.{ℕ_discrete}
 use native.Mathlib.Omega.{arith}
-use borrow.Author.Tests.{ltb-true, lt-ltb, le-leb}
+use borrow.Author.Tests.{ltb-true, lt-ltb, le-ltb, le-leb, lt-leb}
 use lib.Dec.{ltb, leb}
 use lib.ListN.{length, get_or, set, replicate, length-set, length-replicate}
 use lib.Seq.{get_or-set_same, get_or-set_other}
@@ -157,6 +157,24 @@ module _ {succs : ℕ → List ℕ} {s seen : List Bool} {queue : List ℕ} {hea
 -- A visit.
 
 module _ (seen : List Bool) (queue : List ℕ) (tail v : ℕ) where
+  -- a visit of a visited node changes nothing
+  pub visit_old : At seen v → visit_of seen queue tail v ≡ after seen queue tail
+  unfolding visit_of is_new
+  visit_old h = simp (h, and-false)
+
+  -- nor does one of a number that is no node, one with a full queue, and one of a number that is too large for the queue
+  pub visit_outside : length seen ≤ v → visit_of seen queue tail v ≡ after seen queue tail
+  unfolding visit_of is_new
+  visit_outside h = rw (le-ltb v (length seen) h)
+
+  pub visit_full : length queue ≤ tail → visit_of seen queue tail v ≡ after seen queue tail
+  unfolding visit_of is_new
+  visit_full h = rw (le-ltb tail (length queue) h, and-false)
+
+  pub visit_large : max_node < v → visit_of seen queue tail v ≡ after seen queue tail
+  unfolding visit_of is_new
+  visit_large h = rw (lt-leb v max_node h, and-false)
+
   -- a visit of a new node marks it and puts it into the queue
   pub visit_fresh :
       v < length seen

@@ -48,7 +48,7 @@ pub fn pack(s: State, cells: &mut [u64], named: TypeEntry, b: u16) -> State
     ensures { after result (cells_of cells.new) ≡ pack_of (cells_of cells.old) s (named.end - (named.row + 1)) b }
 {
     let Some(r) = rooms::free_room(cells, s.free) else {
-        return s.stopped(Stop::TooManyRecords);
+        return s.ended(Stop::TooManyRecords);
     };
     pack_in(
         s,
@@ -72,7 +72,7 @@ fn unpack_from(s: State, cells: &mut [u64], c: u32, m: u8) -> State
     ensures { after result (cells_of cells.new) ≡ unpacked_from (cells_of cells.old) s c m }
 {
     if !rooms::is_live(cells, c, m) {
-        return s.stopped(Stop::Broken);
+        return s.ended(Stop::Broken);
     }
     let o = rooms::room_cell(m);
     let k = state::second_at(cells, o as usize);
@@ -86,7 +86,7 @@ pub fn unpack(s: State, cells: &mut [u64]) -> State
     ensures { after result (cells_of cells.new) ≡ unpack_of (cells_of cells.old) s }
 {
     match s.top(cells, 0) {
-        Operand::Empty | Operand::Number(_) | Operand::Refer(_) => s.stopped(Stop::Broken),
+        Operand::Empty | Operand::Number(_) | Operand::Refer(_) => s.ended(Stop::Broken),
         Operand::Record(c, m, _) => unpack_from(s, cells, c, m),
     }
 }

@@ -41,10 +41,10 @@ fn publish(s: State, cells: &mut [u64], y: u8, c: u32, m: u8) -> State
 {
     let n = s.entries;
     if found(s, cells, y).is_some() {
-        return s.stopped(Stop::KeyTaken);
+        return s.ended(Stop::KeyTaken);
     }
     if entries::ENTRIES <= n {
-        return s.stopped(Stop::TooManyEntries);
+        return s.ended(Stop::TooManyEntries);
     }
     entries::put_entry(cells, n, y, s.number(cells, 0), c, m);
     with_entries(s, n + 1).drop_top(2).next()
@@ -55,10 +55,10 @@ pub fn move_to(s: State, cells: &mut [u64], b: u16) -> State
     ensures { after result (cells_of cells.new) ≡ move_to_of (cells_of cells.old) s b }
 {
     if !s.has_number(cells, 0) {
-        return s.stopped(Stop::Broken);
+        return s.ended(Stop::Broken);
     }
     match s.top(cells, 1) {
-        Operand::Empty | Operand::Number(_) | Operand::Refer(_) => s.stopped(Stop::Broken),
+        Operand::Empty | Operand::Number(_) | Operand::Refer(_) => s.ended(Stop::Broken),
         Operand::Record(c, m, _) => publish(s, cells, (b % 256) as u8, c, m),
     }
 }
@@ -68,12 +68,12 @@ pub fn move_from(s: State, cells: &mut [u64], b: u16) -> State
     ensures { after result (cells_of cells.new) ≡ move_from_of (cells_of cells.old) s b }
 {
     if !s.has_number(cells, 0) {
-        return s.stopped(Stop::Broken);
+        return s.ended(Stop::Broken);
     }
     let y = (b % 256) as u8;
     let n = s.entries;
     let Some(i) = found(s, cells, y) else {
-        return s.stopped(Stop::NoSuchKey);
+        return s.ended(Stop::NoSuchKey);
     };
     let w = entry_word(cells, i, y);
     entries::remove_entry(cells, n, i);
@@ -85,11 +85,11 @@ pub fn borrow_global(s: State, cells: &mut [u64], b: u16) -> State
     ensures { after result (cells_of cells.new) ≡ global_of (cells_of cells.old) s b }
 {
     if !s.has_number(cells, 0) {
-        return s.stopped(Stop::Broken);
+        return s.ended(Stop::Broken);
     }
     let y = (b % 256) as u8;
     let Some(i) = found(s, cells, y) else {
-        return s.stopped(Stop::NoSuchKey);
+        return s.ended(Stop::NoSuchKey);
     };
     frame::operations::settle(s, cells, 1, state::TO_RECORD, entry_word(cells, i, y))
 }
@@ -100,7 +100,7 @@ pub fn exists(s: State, cells: &mut [u64], b: u16) -> State
     ensures { after result (cells_of cells.new) ≡ exists_of (cells_of cells.old) s b }
 {
     if !s.has_number(cells, 0) {
-        return s.stopped(Stop::Broken);
+        return s.ended(Stop::Broken);
     }
     let r = u64::from(found(s, cells, (b % 256) as u8).is_some());
     frame::operations::settle(s, cells, 1, state::NUMBER, r)

@@ -113,8 +113,8 @@ pub fn read_ref(s: State, cells: &mut [u64]) -> State
             let n = state::number_at(cells, o as usize);
             frame::operations::settle(s, cells, 1, state::NUMBER, n)
         }
-        Ok(Place::Record(_, _)) => s.stopped(Stop::Broken),
-        Err(stop) => s.stopped(stop),
+        Ok(Place::Record(_, _)) => s.ended(Stop::Broken),
+        Err(stop) => s.ended(stop),
     }
 }
 
@@ -124,15 +124,15 @@ pub fn write_ref(s: State, cells: &mut [u64]) -> State
     ensures { after result (cells_of cells.new) ≡ write_of (cells_of cells.old) s }
 {
     if !s.has_number(cells, 1) {
-        return s.stopped(Stop::Broken);
+        return s.ended(Stop::Broken);
     }
     match target_top(s, cells) {
         Ok(Place::Number(o)) => {
             state::put(cells, o as usize, state::NUMBER, s.number(cells, 1));
             s.drop_top(2).next()
         }
-        Ok(Place::Record(_, _)) => s.stopped(Stop::Broken),
-        Err(stop) => s.stopped(stop),
+        Ok(Place::Record(_, _)) => s.ended(Stop::Broken),
+        Err(stop) => s.ended(stop),
     }
 }
 
@@ -141,7 +141,7 @@ fn borrow_held(s: State, cells: &mut [u64], c: u32, m: u8, y: u8, j: u8) -> Stat
     ensures { after result (cells_of cells.new) ≡ borrowed_as (cells_of cells.old) s c m y j (held_at (cells_of cells.old) (field_cell (cells_of cells.old) m j)) }
 {
     let Some(o) = rooms::field_cell(cells, m, j) else {
-        return s.stopped(Stop::Broken);
+        return s.ended(Stop::Broken);
     };
     if state::is_number(cells, o as usize) {
         let w = state::field_word(c, m, y, j);
@@ -151,7 +151,7 @@ fn borrow_held(s: State, cells: &mut [u64], c: u32, m: u8, y: u8, j: u8) -> Stat
         let w = state::record_at(cells, o as usize);
         return frame::operations::settle(s, cells, 1, state::TO_RECORD, w);
     }
-    s.stopped(Stop::Broken)
+    s.ended(Stop::Broken)
 }
 
 // BorrowFld.
@@ -159,8 +159,8 @@ pub fn borrow_field(s: State, cells: &mut [u64], b: u16) -> State
     ensures { after result (cells_of cells.new) ≡ borrow_field_of (cells_of cells.old) s b }
 {
     match target_top(s, cells) {
-        Ok(Place::Number(_)) => s.stopped(Stop::Broken),
+        Ok(Place::Number(_)) => s.ended(Stop::Broken),
         Ok(Place::Record(c, m)) => borrow_held(s, cells, c, m, (b / 8 % 256) as u8, (b % 8) as u8),
-        Err(stop) => s.stopped(stop),
+        Err(stop) => s.ended(stop),
     }
 }

@@ -33,6 +33,7 @@ fn run_files(rt: &(impl Files + Print), table: &[u8], list: &[u8]) -> anyhow::Re
 }
 
 // Runs the list over the table and prints the text, or the refusal.
+#[tactic(auto, using(table::proofs::Reasons::told_is))]
 fn run_under<W: Write>(
     out: &mut W,
     table: &[u8],

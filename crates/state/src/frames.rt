@@ -3,7 +3,7 @@ ghost use Rattle.std.specs.Prelude.{◌≡◌, ◌+◌, ◌-◌, ◌<◌};
 ghost use Rattle.state.specs.code.Coding.{value_of, is_number, number_of};
 ghost use Rattle.state.specs.code.Cells.{cells_of};
 ghost use Rattle.state.specs.code.Layout.{operand_cell, local_cell, suspended_cell};
-ghost use Rattle.state.specs.code.Frames.{pushed, pushed_in, top_at, dropped, gone_to, gone_on, stopped_with, loaded_in, cleared_in, stored_in, suspended_in, resumed, entered, entered_in, received, received_in, next_serial};
+ghost use Rattle.state.specs.code.Frames.{pushed, pushed_in, top_at, dropped, gone_to, gone_on, stopped_with, ended_with, loaded_in, cleared_in, stored_in, suspended_in, resumed, entered, entered_in, received, received_in, next_serial};
 
 use crate::Operand;
 use crate::stops::Stop;
@@ -151,12 +151,19 @@ impl State {
         self
     }
 
-    // The call ended.
-    pub fn stopped(mut self, stop: Stop) -> Self
+    // The call ended, with any number.
+    pub fn stopped(mut self, stop: u8) -> Self
         ensures { result ≡ stopped_with self stop }
     {
-        self.stop = stop.number();
+        self.stop = stop;
         self
+    }
+
+    // The call ended so.
+    pub fn ended(self, stop: Stop) -> Self
+        ensures { result ≡ ended_with self stop }
+    {
+        self.stopped(stop.number())
     }
 
     // Pushes what local l holds, empty where there is no such local, where there is room.

@@ -19,7 +19,7 @@ use Rattle.state.specs.declared.stops.Stop.TheVariants.{Done, TooLarge as Large,
 use Rattle.state.specs.code.Layout.{room_cell}
 use Rattle.state.specs.code.Coding.{is_number, number_of}
 use Rattle.state.specs.code.Stops.{number_of as stop_number}
-use Rattle.state.specs.code.Frames.{stop_of, pushed, dropped, gone_to, gone_on, stopped_with, top_at, resumed, resumed_at, entered}
+use Rattle.state.specs.code.Frames.{stop_of, pushed, dropped, gone_to, gone_on, ended_with, top_at, resumed, resumed_at, entered}
 use Rattle.state.specs.code.Cells.{held_at}
 use Rattle.state.specs.code.Rooms.{is_live, field_cell, first_free}
 use Rattle.frame.specs.code.Turning.{Turning, after, done, ends}
@@ -144,7 +144,7 @@ module _ (cs : List Operand) (s : State) where
   branches : {r : Bool} → (b : ℕ) (x : Operand) → Shape cs s r (after (branched_by s b x) cs)
   branches b x = go (is_number x) (eqb (number_of x) 0)
     where
-      go : {r : Bool} → (n c : Bool) → Shape cs s r (after (cond n (cond c (gone_on (dropped s 1)) (gone_to (dropped s 1) b)) (stopped_with s Broken)) cs)
+      go : {r : Bool} → (n c : Bool) → Shape cs s r (after (cond n (cond c (gone_on (dropped s 1)) (gone_to (dropped s 1) b)) (ended_with s Broken)) cs)
       go true true = calm refl refl refl refl
       go true false = calm refl refl refl refl
       go false c = stays Broken refl

@@ -48,6 +48,6 @@ pub fn step(
         format::OP => frame::operations::op(s, cells, b),
         // A cell does not tell whether a reference is read-only: the judge has seen that it is not written through.
         format::FREEZE => s.next(),
-        format::PAST_OPCODES..=255 => s.stopped(Stop::Broken),
+        format::PAST_OPCODES..=255 => s.ended(Stop::Broken),
     }
 }

@@ -1,11 +1,13 @@
 -- A reason is a fault: its number is not 0. So a pass that comes to a row with a reason stops there.
 use Prim.Native.Nat.{ℕ, ◌<◌}
-use mathlib.Core.Path.{◌≡◌, sym}
+use mathlib.Core.Path.{◌≡◌, refl, sym}
+use Rattle.std.specs.Prelude.{Result, Ok, Err}
 use native.Mathlib.Omega.{arith}
 use Rattle.laws.proofs.First.{from, faulty_with}
 use Rattle.table.specs.declared.refusals.Reason.{Reason}
 use Rattle.table.specs.declared.refusals.Reason.TheVariants.{BadLength, BadPlace, OverLimit, DirtyByte, WrongValue, WrongGuard, OpenEnd, NotDeclared, WrongOperand, TooManyOperands, OperandsLeft, ForeignName, EmptyLocal, LostRecord, MarkGiven, MarkReturned, BadRules, UnruledPair, ForbiddenCall, BadList, BadCall, SmallBuffer}
-use Rattle.table.specs.Verdicts.{number_of_reason}
+use Rattle.table.specs.declared.refusals.Refusal.{Refusal}
+use Rattle.table.specs.Verdicts.{number_of_reason, verdict_of, told}
 
 pub reason-faulty : (r : Reason) → number_of_reason r ≡ 0 → ⊥
 reason-faulty BadLength e = omega arith
@@ -34,3 +36,8 @@ reason-faulty SmallBuffer e = omega arith
 -- row i is the first faulty one of a pass over n rows, for this reason
 pub stops_at : {A : Type 0} (clean : ℕ → A) (bad : ℕ → ℕ → A) (f : ℕ → ℕ) (n i : ℕ) (r : Reason) → i < n → number_of_reason r ≡ f i → from clean bad f n i ≡ bad (number_of_reason r) i
 stops_at clean bad f n i r h e = faulty_with clean bad f n i (number_of_reason r) h (sym e) (reason-faulty r)
+
+-- what the code's refusals tell is their verdict
+pub told_is : (v : Result ℕ Refusal) → told (λ (x : Refusal). (number_of_reason x.reason, x.row)) v ≡ verdict_of v
+told_is (Ok rows) = refl
+told_is (Err refusal) = refl

@@ -67,6 +67,11 @@ abbrev pub verdict_of : Result ℕ Refusal → Verdict
 verdict_of (Ok rows) = Accepted rows
 verdict_of (Err refusal) = Refused (number_of_reason refusal.reason) refusal.row
 
+-- the verdict that any result stands for whose refusals tell a number and a row
+abbrev pub told : {R : Type 0} → (R → ℕ × ℕ) → Result ℕ R → Verdict
+told tells (Ok rows) = Accepted rows
+told tells (Err refusal) = Refused (tells refusal).0 (tells refusal).1
+
 -- the number of the fault that a row earns, 0 for none
 abbrev pub fault_of : Option Reason → ℕ
 fault_of None = 0

@@ -1,6 +1,6 @@
 // Why a table, a rule file, a list of calls or a buffer is refused (documents 01 and 02), pass by pass. specs/Refusals.antt has the same names for the rules.
-ghost use Rattle.std.specs.Prelude.{◌≡◌, Some};
-ghost use Rattle.table.specs.Verdicts.{number_of, value_of, number_of_reason, refusal_at, refused_text, verdict_of};
+ghost use Rattle.std.specs.Prelude.{◌≡◌, ℕ, Some};
+ghost use Rattle.table.specs.Verdicts.{number_of, value_of, number_of_reason, refusal_at, refused_text, told};
 
 use std::error::Error;
 use std::fmt;
@@ -75,22 +75,57 @@ impl fmt::Display for Refusal {
 
 impl Error for Refusal {}
 
+// What a refusal tells: its number in documents 01 and 02, and the row, or the pair of modules, that earns it. Any two numbers tell both.
+pub trait Told: Copy {
+    ghost tells: { Self → ℕ × ℕ };
+
+    fn number(self) -> u8
+        ensures { result ≡ (tells self).0 };
+
+    fn row(self) -> usize
+        ensures { result ≡ (tells self).1 };
+}
+
+impl Told for Refusal {
+    ghost tells = { λ x. (number_of_reason x.reason, x.row) };
+
+    fn number(self) -> u8 {
+        self.reason.number()
+    }
+
+    fn row(self) -> usize {
+        self.row
+    }
+}
+
+impl Told for (u8, usize) {
+    ghost tells = { λ x. (x.0, x.1) };
+
+    fn number(self) -> u8 {
+        self.0
+    }
+
+    fn row(self) -> usize {
+        self.1
+    }
+}
+
 // Document 01's number: 0 where the table is accepted.
-pub fn number_of(verdict: Result<usize, Refusal>) -> u8
-    ensures { result ≡ number_of (verdict_of verdict) }
+pub fn number_of<R: Told>(verdict: Result<usize, R>) -> u8
+    ensures { result ≡ number_of (told R.tells verdict) }
 {
     match verdict {
         Ok(_) => 0,
-        Err(refusal) => refusal.reason.number(),
+        Err(refusal) => refusal.number(),
     }
 }
 
 // Document 01's value: the number of rows, or the refused row.
-pub fn value_of(verdict: Result<usize, Refusal>) -> usize
-    ensures { result ≡ value_of (verdict_of verdict) }
+pub fn value_of<R: Told>(verdict: Result<usize, R>) -> usize
+    ensures { result ≡ value_of (told R.tells verdict) }
 {
     match verdict {
         Ok(rows) => rows,
-        Err(refusal) => refusal.row,
+        Err(refusal) => refusal.row(),
     }
 }

@@ -10,7 +10,7 @@ use table::refusals;
 use table::refusals::Refusal;
 
 // An answer in one number: number * 2^32 + value.
-#[tactic(auto, unfolding(judging::specs::Judging::answer_of))]
+#[tactic(auto, using(table::proofs::Reasons::told_is), unfolding(judging::specs::Judging::answer_of))]
 fn answer_of(verdict: Result<usize, Refusal>) -> u64
     requires { value_of (verdict_of verdict) < 4294967296 }
     ensures { result ≡ answer_of (verdict_of verdict) }

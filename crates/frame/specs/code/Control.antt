@@ -5,7 +5,7 @@ use Rattle.state.specs.declared.frames.State.{State}
 use Rattle.state.specs.declared.stops.Stop.TheVariants.{Done, TooManyFrames, Broken}
 use Rattle.state.specs.code.Coding.{is_number, number_of}
 use Rattle.state.specs.code.Layout.{operand_cell}
-use Rattle.state.specs.code.Frames.{top_at, dropped, gone_to, gone_on, stopped_with, suspended_in, resumed, entered, entered_in, received, received_in}
+use Rattle.state.specs.code.Frames.{top_at, dropped, gone_to, gone_on, ended_with, suspended_in, resumed, entered, entered_in, received, received_in}
 use Rattle.frame.specs.code.Turning.{Turning, after, ends}
 
 -- n, at most 16
@@ -29,7 +29,7 @@ ret_of cs s k = cond (eqb s.depth 0) (ends cs s Done) (returned_to cs s (k % 256
 
 -- BranchCond
 abbrev pub branched_by : State → ℕ → Operand → State
-branched_by s b x = cond (is_number x) (cond (eqb (number_of x) 0) (gone_on (dropped s 1)) (gone_to (dropped s 1) b)) (stopped_with s Broken)
+branched_by s b x = cond (is_number x) (cond (eqb (number_of x) 0) (gone_on (dropped s 1)) (gone_to (dropped s 1) b)) (ended_with s Broken)
 
 abbrev pub branch_of : List Operand → State → ℕ → State
 branch_of cs s b = branched_by s b (top_at cs s 0)

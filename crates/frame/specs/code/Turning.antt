@@ -3,7 +3,7 @@ use Rattle.std.specs.Prelude.{ℕ, List}
 use Rattle.state.specs.declared.Operand.{Operand}
 use Rattle.state.specs.declared.frames.State.{State}
 use Rattle.state.specs.declared.stops.Stop.{Stop}
-use Rattle.state.specs.code.Frames.{pushed, pushed_in, dropped, gone_on, stopped_with}
+use Rattle.state.specs.code.Frames.{pushed, pushed_in, dropped, gone_on, ended_with}
 
 pub data Turning : Type 0 where
   after : State → List Operand → Turning
@@ -17,7 +17,7 @@ broken = 99
 
 -- the call ends
 abbrev pub ends : List Operand → State → Stop → Turning
-ends cs s k = after (stopped_with s k) cs
+ends cs s k = after (ended_with s k) cs
 
 -- k operands taken, one pushed, and on
 abbrev pub settled : List Operand → State → ℕ → Operand → Turning

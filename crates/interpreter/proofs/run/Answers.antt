@@ -47,4 +47,4 @@ loop-left-preserved c =
     )
 
 pub returns : goal.returns
-returns c = (run_spent _ _ _ _ _ c.loop-left.invariant.1 (omega arith) c.stopped.ensures, c.is_unmarked-2.ensures ∙ same-spent _ _ _ _ (c.loop-left.left / 2) (eqb (c.loop-left.left % 2) 0) c.loop-left.invariant.2 (omega arith))
+returns c = (run_spent _ _ _ _ _ c.loop-left.invariant.1 (omega arith) c.ended.ensures, c.is_unmarked-2.ensures ∙ same-spent _ _ _ _ (c.loop-left.left / 2) (eqb (c.loop-left.left % 2) 0) c.loop-left.invariant.2 (omega arith))

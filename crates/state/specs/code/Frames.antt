@@ -19,7 +19,7 @@ with_height s h = record { serial = s.serial; procedure = s.procedure; at = s.at
 abbrev pub stop_of : State → ℕ
 stop_of s = s.stop
 
--- an operand pushed; the operand number k from the top; k operands taken; at instruction i; the call ended
+-- an operand pushed; the operand number k from the top; k operands taken; at instruction i; the call ended, by a number and by the stop that has it
 abbrev pub pushed : State → State
 pushed s = with_height s (cond (ltb s.height 16) (s.height + 1) s.height)
 
@@ -38,8 +38,11 @@ gone_to s i = record { serial = s.serial; procedure = s.procedure; at = i; depth
 abbrev pub gone_on : State → State
 gone_on s = gone_to s (cond (ltb s.at 65535) (s.at + 1) s.at)
 
-abbrev pub stopped_with : State → Stop → State
-stopped_with s k = record { serial = s.serial; procedure = s.procedure; at = s.at; depth = s.depth; height = s.height; count = s.count; stop = end_number k; records = s.records; frames = s.frames; entries = s.entries; rooms = s.rooms; free = s.free }
+abbrev pub stopped_with : State → ℕ → State
+stopped_with s k = record { serial = s.serial; procedure = s.procedure; at = s.at; depth = s.depth; height = s.height; count = s.count; stop = k; records = s.records; frames = s.frames; entries = s.entries; rooms = s.rooms; free = s.free }
+
+abbrev pub ended_with : State → Stop → State
+ended_with s k = stopped_with s (end_number k)
 
 -- a local pushed, emptied, filled from the top
 abbrev pub loaded_in : List Operand → State → ℕ → List Operand

@@ -91,4 +91,4 @@ returns-in-20 c = rw (c.in-20.is, c.next.ensures)
 
 pub returns-in-21-to-255 : goal.returns-in-21-to-255
 unfolding turn_of
-returns-in-21-to-255 c = rw c.stopped.ensures (sym (past_all _ _ _ _ _ _ _ _ _ _ _ (above past_opcodes _ c.in-21-to-255.in-21-to-255-own.rest)))
+returns-in-21-to-255 c = rw c.ended.ensures (sym (past_all _ _ _ _ _ _ _ _ _ _ _ (above past_opcodes _ c.in-21-to-255.in-21-to-255-own.rest)))

@@ -5,4 +5,4 @@ use Rattle.effects.specs.Kinds.{view, pushed_all}
 use Rattle.effects.proofs.Stack.push_rows.Given as goal
 
 abbrev pub invariant-loop-i : goal.invariant-loop-i
-invariant-loop-i l = pushed_all (kinds_of l.table l.from l.to) (view l.initial.kinds l.initial.stack) ≡ pushed_all (kinds_of l.table l.i l.to) (view l.kinds l.stack)
+invariant-loop-i g l = pushed_all (kinds_of l.table l.from l.to) (view g.F.Fault.fault_number l.initial.kinds l.initial.stack) ≡ pushed_all (kinds_of l.table l.i l.to) (view g.F.Fault.fault_number l.kinds l.stack)

@@ -6,4 +6,4 @@ use Rattle.effects.specs.Kinds.{view, taken_all}
 use Rattle.effects.proofs.Stack.take_rows.Given as goal
 
 abbrev pub invariant-loop-i : goal.invariant-loop-i
-invariant-loop-i l = (l.i ≤ l.to) × (min l.from l.to ≤ l.i) × (view l.kinds l.stack ≡ taken_all (kinds_of l.table l.i l.to) (view l.kinds l.initial.stack))
+invariant-loop-i g l = (l.i ≤ l.to) × (min l.from l.to ≤ l.i) × (view g.F.Fault.fault_number l.kinds l.stack ≡ taken_all (kinds_of l.table l.i l.to) (view g.F.Fault.fault_number l.kinds l.initial.stack))

@@ -16,4 +16,4 @@ nowhere cs s Stale k e = cc
 nowhere cs s Impossible k e = cc
 
 pub returns-in-Err : goal.returns-in-Err
-returns-in-Err c = rw c.stopped-in-Err.ensures (nowhere _ _ _ _ c.in-Err.ensures)
+returns-in-Err c = rw c.ended-in-Err.ensures (nowhere _ _ _ _ c.in-Err.ensures)
