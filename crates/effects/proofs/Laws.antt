@@ -4,6 +4,7 @@ use mathlib.Core.Path.{◌≡◌, refl, ap, sym, ◌∙◌}
 use mathlib.Core.Bool.{Bool, true, false, cond, not, ◌&&◌, ◌||◌}
 use Rattle.std.specs.Option.{is_some, option_or}
 use Rattle.std.specs.Prelude.{Option, Some, None}
+use Rattle.std.proofs.Math.Nat.{pos_of_ne-zero}
 use mathlib.Core.List.{List, [], ◌∷◌}
 use native.Mathlib.Decide.{dec_lt, ℕ_discrete}
 use native.Mathlib.Omega.{arith}
@@ -17,6 +18,9 @@ use Rattle.laws.proofs.Tests.{and_both}
 use Rattle.table.specs.declared.Row.{Row}
 use Rattle.table.specs.declared.index.TypeEntry.{TypeEntry}
 use Rattle.table.specs.declared.index.ProcedureEntry.{ProcedureEntry}
+use Rattle.table.specs.declared.refusals.Reason.{Reason}
+use Rattle.table.specs.Verdicts.{number_of_reason, fault_of}
+use Rattle.table.proofs.Reasons.{reason-faulty}
 use Rattle.table.specs.Format.{max_operands, past_opcodes}
 use Rattle.table.specs.Rows.{row_at}
 use Rattle.declarations.specs.Program.{row_kind, kinds_from, kinds_of, is_reference, is_writable}
@@ -134,7 +138,32 @@ module _ {F : Type 0} (number : F → ℕ) (shows : (fault : F) → 0 < number f
   fault_tests ks h None last other = fault_is ks h 0 last other
   fault_tests ks h (Some fault) last other = rw bad_for
 
-pub ruleset views = (fail_tests, top-tests, take-tests, push-tests, fault_tests)
+-- and for a reason, by `fault_of`: its number is not 0, so that it shows
+pub reason_shows : (r : Reason) → 0 < number_of_reason r
+reason_shows r = pos_of_ne-zero (reason-faulty r)
+
+pub by_reason : (f : Option Reason) → fault_by number_of_reason f ≡ fault_of f
+by_reason f = refl
+
+module _ (ks : List ℕ) where
+  pub fail_reason : (h : ℕ) (f : Option Reason) (r : Reason) → failed (number_of_reason r) (kinds_or (fault_of f) (top_first ks h)) ≡ kinds_or (fault_of (option_or f (Some r))) (top_first ks h)
+  fail_reason = fail_tests number_of_reason reason_shows ks
+
+  pub top-reason : (h : ℕ) (f : Option Reason) → top_of (kinds_or (fault_of f) (top_first ks h)) ≡ cond (is_some f) 0 (cond (eqb h 0) 0 (get_or ks (h - 1) 0))
+  top-reason = top-tests number_of_reason reason_shows ks
+
+  pub take-reason : (h : ℕ) (f : Option Reason) (k : ℕ) → taken k (kinds_or (fault_of f) (top_first ks h))
+      ≡ cond (is_some f) (kinds_or (fault_of f) (top_first ks h)) (cond (eqb h 0 || not (eqb (get_or ks (h - 1) 0) k)) (failed 7 (kinds_or (fault_of f) (top_first ks h))) (kinds_or (fault_of f) (top_first ks (h - 1))))
+  take-reason = take-tests number_of_reason reason_shows ks
+
+  pub push-reason : length ks ≡ max_operands → (h : ℕ) (f : Option Reason) (k : ℕ) → pushed k (kinds_or (fault_of f) (top_first ks h))
+      ≡ cond (is_some f) (kinds_or (fault_of f) (top_first ks h)) (cond (ltb h max_operands) (kinds_or (fault_of f) (top_first (set ks h k) (h + 1))) (failed 8 (kinds_or (fault_of f) (top_first ks h))))
+  push-reason = push-tests number_of_reason reason_shows ks
+
+  pub fault_reason : (h : ℕ) (f : Option Reason) (last other : Bool) → fault_after (kinds_or (fault_of f) (top_first ks h)) last other ≡ cond (is_some f) (fault_of f) (cond (last && not (eqb h 0)) 9 (cond other 10 0))
+  fault_reason = fault_tests number_of_reason reason_shows ks
+
+pub ruleset views = (fail_tests, top-tests, take-tests, push-tests, fault_tests, fail_reason, top-reason, take-reason, push-reason, fault_reason, by_reason)
 
 -- the kinds that rows declare
 module _ (t : List ℕ) (from to : ℕ) where
